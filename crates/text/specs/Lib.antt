@@ -1,0 +1,5 @@
+pub mod Parts
+pub mod Digits
+pub mod Lines
+pub mod Whole
+pub mod Scopes

@@ -1,0 +1,5 @@
+pub mod Putting
+pub mod Texts
+pub mod Bounds
+pub mod Filling
+pub mod Back
