@@ -1,0 +1,3 @@
+//! Tests of the class tables: both are driven through the same additions and compared.
+#[cfg(test)]
+mod tests;
