@@ -1,0 +1,5 @@
+//! Tables of texts: read, vetted and written back, and filled; and their refusals.
+#[cfg(test)]
+mod fills;
+#[cfg(test)]
+mod tests;
