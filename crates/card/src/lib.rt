@@ -1,4 +1,6 @@
 //! The card and its calls.
+#![tactic(auto)]
+
 pub mod card;
 mod numbers;
 pub mod rows;

@@ -1,4 +1,6 @@
 //! Tables of texts: read, vetted and written back, and filled; and their refusals.
+#![tactic(auto)]
+
 #[cfg(test)]
 mod fills;
 #[cfg(test)]

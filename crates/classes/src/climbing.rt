@@ -6,6 +6,7 @@ ghost use Rattle.std.proofs.Common.{rules, arith};
 use crate::table::{BLANK_CLASSES, ClassTable, MAX_CLASSES, MAX_DEPTH, checked_parent};
 use semantics::refusal::{Capacity, Refusal};
 
+#[derive(Clone, Copy)]
 pub struct Climbing {
     parents: [u8; MAX_CLASSES],
     count: u8,
@@ -13,8 +14,6 @@ pub struct Climbing {
     ghost long: { length parents ≡ 64 },
     ghost tree: { Shape (take count parents) },
 }
-
-impl Copy for Climbing {}
 
 impl Climbing {
     // How many parents up class 0 is.

@@ -7,6 +7,7 @@ ghost use Rattle.std.proofs.Common.{rules, arith};
 use crate::table::{BLANK_CLASSES, ClassTable, MAX_CLASSES, MAX_DEPTH, checked_parent};
 use semantics::refusal::{Capacity, Refusal};
 
+#[derive(Clone, Copy)]
 pub struct Masks {
     // Bit b of entry a is set if class a fits class b.
     masks: [u64; MAX_CLASSES],
@@ -17,8 +18,6 @@ pub struct Masks {
     ghost first: { slice_index (take count masks) 0 ≡ 1 },
     ghost steps: { Steps (take count masks) },
 }
-
-impl Copy for Masks {}
 
 const TOP_BIT: u32 = u64::BITS - 1;
 

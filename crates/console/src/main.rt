@@ -1,4 +1,6 @@
 //! Plays a list of calls from standard input on a card, and prints each answer.
+#![tactic(auto)]
+
 use std::io;
 use std::io::Read;
 

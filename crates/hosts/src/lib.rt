@@ -1,4 +1,6 @@
 //! Hosts: what answers the questions of native methods.
+#![tactic(auto)]
+
 pub mod cells;
 pub mod host;
 pub mod laws;

@@ -11,6 +11,7 @@ pub mod steps;
 
 pub const MAX_FRAMES: usize = 8;
 
+#[derive(Clone, Copy)]
 pub struct Run {
     frames: [Frame; MAX_FRAMES],
     depth: usize,
@@ -18,5 +19,3 @@ pub struct Run {
     ghost long: { length frames ≡ 8 },
     ghost waiting: { Waiting frames depth },
 }
-
-impl Copy for Run {}

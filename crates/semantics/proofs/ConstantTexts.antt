@@ -1,5 +1,5 @@
 -- Constants: each is read from its only text.
-use Rattle.std.proofs.Common.{◌≡◌, ℕ, zero, suc, ◌^◌, ◌<◌, ◌≤◌, true, false, not, eqb, leb, List, [], ◌∷◌, get_or, ℤ, pos, negsuc, neg_ℤ, Ok, decimal, refl, ap, ◌∙◌, subst, arith}
+use Rattle.std.proofs.Common.{◌≡◌, ℕ, zero, suc, ◌^◌, ◌<◌, ◌≤◌, true, not, eqb, leb, List, [], ◌∷◌, get_or, ℤ, pos, negsuc, neg_ℤ, Ok, decimal, refl, ap, ◌∙◌, subst, arith}
 use lib.Signed.{mag}
 use Rattle.std.specs.Char.{is_ascii_digit}
 use Rattle.std.specs.Fmt.{signed_decimal}

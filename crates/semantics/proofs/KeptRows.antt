@@ -129,8 +129,8 @@ founded_kept {kind} {s} (row e x rules room fit) h = record {
 pub passes_still : {s t : Store} → Founded s → Founded t → Grows s t → (m : MethodDef) → check_of s.classes s.entries m ≡ Ok tt → check_of t.classes t.entries m ≡ Ok tt
 passes_still {s} {t} h k g m e =
     subst (λ (ps : List ℕ). Tree ps → Agree ps t.entries → check_of ps t.entries m ≡ Ok tt) (sym g.classes)
-    (subst (λ (es : List EntryDef). Tree (s.classes ++ g.more-classes) → Agree (s.classes ++ g.more-classes) es → check_of (s.classes ++ g.more-classes) es m ≡ Ok tt) (sym g.entries)
-    (λ tree agree. growth_passes s.classes g.more-classes s.entries g.more-entries m h.tree tree agree e))
+    (subst (λ (es : List EntryDef). Tree (s.classes ++ g.more_classes) → Agree (s.classes ++ g.more_classes) es → check_of (s.classes ++ g.more_classes) es m ≡ Ok tt) (sym g.entries)
+    (λ tree agree. growth_passes s.classes g.more_classes s.entries g.more_entries m h.tree tree agree e))
     k.tree k.agree
 
 pub checked_kept : {s t : Store} → Change Issue s t → Checked s → Checked t

@@ -27,13 +27,13 @@ use Rattle.semantics.proofs.Lookups.{up_grown}
 -- what a card grown from another still has
 module _ {s t : Store} (g : Grows s t) (tree : Tree s.classes) where
   pub up_still : {a b : ℕ} → Up s.classes a b → Up t.classes a b
-  up_still {a} {b} u = subst (λ (ps : List ℕ). Up ps a b) (sym g.classes) (up_grown tree g.more-classes u)
+  up_still {a} {b} u = subst (λ (ps : List ℕ). Up ps a b) (sym g.classes) (up_grown tree g.more_classes u)
 
   pub entry_still : {r : ℕ} {e : EntryDef} → At s.entries r e → At t.entries r e
-  entry_still {r} {e} a = subst (λ (es : List EntryDef). At es r e) (sym g.entries) (at_front g.more-entries a)
+  entry_still {r} {e} a = subst (λ (es : List EntryDef). At es r e) (sym g.entries) (at_front g.more_entries a)
 
   pub body_still : {r : ℕ} {b : BodyDef} → At s.bodies r b → At t.bodies r b
-  body_still {r} {b} a = subst (λ (bs : List BodyDef). At bs r b) (sym g.bodies) (at_front g.more-bodies a)
+  body_still {r} {b} a = subst (λ (bs : List BodyDef). At bs r b) (sym g.bodies) (at_front g.more_bodies a)
 
   pub fits_still : {vs : List Value} {cs : List ℕ} → FitsEach s.classes kind_of (λ c. c) vs cs → FitsEach t.classes kind_of (λ c. c) vs cs
   fits_still none = none

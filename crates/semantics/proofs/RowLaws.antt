@@ -3,7 +3,7 @@ use Rattle.std.proofs.Common.{◌≡◌, ℕ, suc, ◌+◌, ◌<◌, ◌≤◌, 
 use Rattle.std.proofs.lemmas.List.{drop_more, drop_all}
 use Rattle.std.proofs.lemmas.Bool.{and_right, false≢true}
 use Rattle.std.proofs.lemmas.Bool.Decides.{Decides-and, Decides-at, Decides-like}
-use Rattle.semantics.specs.Tree.{Up, Tree, fits}
+use Rattle.semantics.specs.Tree.{Up, Tree}
 use Rattle.semantics.specs.Rows.{cell_fits, row_fits, FitsEach, none, cell}
 use Rattle.semantics.proofs.TreeOrder.{fits_decides}
 

@@ -55,8 +55,8 @@ module _ (s t : Store) (a : Checked s) (b : Checked t) (g : Grows s t) where
     tree = a.founded.tree;
     onto = b.founded.tree;
     agree = b.founded.agree;
-    keeps = λ x y u. subst (λ ps. Up ps x y) (sym g.classes) (up_grown a.founded.tree g.more-classes u);
-    rows = λ i e x. subst (λ es. At es i e) (sym g.entries) (at_front g.more-entries x);
+    keeps = λ x y u. subst (λ ps. Up ps x y) (sym g.classes) (up_grown a.founded.tree g.more_classes u);
+    rows = λ i e x. subst (λ es. At es i e) (sym g.entries) (at_front g.more_entries x);
   }
 
   -- an old row stays
@@ -64,7 +64,7 @@ module _ (s t : Store) (a : Checked s) (b : Checked t) (g : Grows s t) where
   same_entry r x = at_get_d no_entry (grown.rows r (entry_at s r) (get_d_at s.entries r no_entry (let h = at_within x in let n = a.founded.paired in omega arith)))
 
   body_kept : (r : ℕ) → Coded s r → At t.bodies r (coded (code_at s r))
-  body_kept r x = subst (λ bs. At bs r (coded (code_at s r))) (sym g.bodies) (at_front g.more-bodies x)
+  body_kept r x = subst (λ bs. At bs r (coded (code_at s r))) (sym g.bodies) (at_front g.more_bodies x)
 
   same_code : (r : ℕ) → Coded s r → code_at t r ≡ code_at s r
   same_code r x = ap code_behind (at_get_d native (body_kept r x))

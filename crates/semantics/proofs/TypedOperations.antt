@@ -10,7 +10,7 @@ use Rattle.semantics.specs.Form.{target, operands, leaves}
 use Rattle.semantics.specs.FormLaws.{Leaves, WellFormed}
 use Rattle.semantics.specs.Lists.{At, here, there}
 use Rattle.semantics.specs.Methods.{Op, return, jump, jump_if, jump_list, invoke, LabelDef}
-use Rattle.semantics.specs.Runs.{FrameDef, kind_of, operand_value, declared, moved_to, point_of, called}
+use Rattle.semantics.specs.Runs.{FrameDef, kind_of, operand_value, declared, moved_to, point_of}
 use Rattle.semantics.specs.Stores.{Store, entry_at, code_at, op_at, method_at}
 use Rattle.semantics.specs.Tests.{operand_class, classes_fit, callee, own_tests, named_labels, first_label, labels_fit}
 use Rattle.semantics.specs.Tree.{fits}

@@ -1,5 +1,5 @@
 -- The load-time check: the points in rising order with a current row, and the first fault.
-use Rattle.std.specs.Prelude.{ℕ, ◌+◌, Bool, true, false, cond, List, [], ◌∷◌, replicate, Some, None, Ok, Err, Option, Result, ◌==◌}
+use Rattle.std.specs.Prelude.{ℕ, ◌+◌, cond, List, [], ◌∷◌, replicate, Some, None, Ok, Err, Option, Result, ◌==◌}
 use Rattle.semantics.specs.declared.misfit.Misfit.{Misfit}
 use Rattle.semantics.specs.declared.misfit.Misfit.TheVariants as misfit
 use Rattle.semantics.specs.declared.refusal.Refusal.{Refusal}

@@ -7,7 +7,7 @@ use Rattle.semantics.specs.CheckLaws.{EntryKnown}
 use Rattle.semantics.specs.Entries.{EntryDef, Agree, entry_in}
 use Rattle.semantics.specs.Fill.{Table, Filled, max_sweeps, no_rows, fill_on, fill_of, row_or, with_table}
 use Rattle.semantics.specs.FormLaws.{WellFormed}
-use Rattle.semantics.specs.Methods.{Each, LabelDef, MethodDef}
+use Rattle.semantics.specs.Methods.{Each, MethodDef}
 use Rattle.semantics.specs.Passes.{RowFits, Path}
 use Rattle.semantics.specs.Refusals.{told}
 use Rattle.semantics.specs.Tree.{Tree}

@@ -1,5 +1,5 @@
 -- What a method is: its head, its labels and its code, as lists.
-use Rattle.std.specs.Prelude.{◌≡◌, ℕ, ◌^◌, ◌<◌, ◌≤◌, List, [], ◌∷◌, map, length, ℤ}
+use Rattle.std.specs.Prelude.{◌≡◌, ℕ, ◌^◌, ◌<◌, ◌≤◌, List, [], ◌∷◌, map, length}
 use Rattle.std.specs.Int.Signed.{mag}
 use Rattle.semantics.specs.declared.operation.Operand.{Operand}
 use Rattle.semantics.specs.declared.operation.Operand.TheVariants as operand

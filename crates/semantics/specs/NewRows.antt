@@ -1,10 +1,10 @@
 -- The rules for a new method row.
-use Rattle.std.specs.Prelude.{◌≡◌, ℕ, ◌+◌, Bool, true, false, cond, not, ◌&&◌, ◌||◌, List, [], ◌∷◌, ◌++◌, length, Ok, Err, ◌==◌, nat_le, nat_lt}
+use Rattle.std.specs.Prelude.{ℕ, ◌+◌, Bool, true, false, not, ◌&&◌, ◌||◌, List, [], ◌∷◌, ◌++◌, Ok, ◌==◌, nat_le, nat_lt}
 use Rattle.semantics.specs.declared.refusal.Capacity.TheVariants.{Rows, Points}
 use Rattle.semantics.specs.declared.refusal.Refusal.TheVariants.{ClassAbsent, Full, NameTaken, SignatureDiffers}
 use Rattle.semantics.specs.Entries.{EntryDef}
 use Rattle.semantics.specs.Form.{Formed, must}
-use Rattle.semantics.specs.Methods.{LabelDef, MethodDef}
+use Rattle.semantics.specs.Methods.{LabelDef}
 use Rattle.semantics.specs.Reading.{so}
 use Rattle.semantics.specs.Tree.{present, fits}
 

@@ -1,5 +1,5 @@
 -- Decimal numbers without needless zeros, and the numbers that they write.
-use Rattle.std.specs.Prelude.{ℕ, ◌+◌, ◌-◌, ◌*◌, Bool, true, false, cond, not, ◌&&◌, List, [], ◌∷◌, length, ◌==◌, slice_index}
+use Rattle.std.specs.Prelude.{ℕ, ◌+◌, ◌-◌, ◌*◌, Bool, false, cond, not, ◌&&◌, List, [], ◌∷◌, length, ◌==◌, slice_index}
 use Rattle.std.specs.Str.{all_ascii_digits}
 
 -- the number that digits write behind the number n

@@ -1,5 +1,5 @@
 -- What the value of a line says. In one value a malformed part comes before a number out of range, and of such numbers the first.
-use Rattle.std.specs.Prelude.{ℕ, suc, ◌+◌, Bool, true, false, cond, ◌&&◌, List, [], ◌∷◌, ◌++◌, length, ℤ, pos, neg_ℤ, Ok, Err, Result, ◌==◌, nat_le}
+use Rattle.std.specs.Prelude.{ℕ, ◌+◌, cond, List, [], ◌∷◌, ◌++◌, length, ℤ, pos, neg_ℤ, Ok, Err, Result, ◌==◌, nat_le}
 use Rattle.semantics.specs.declared.refusal.Fault.{Fault}
 use Rattle.semantics.specs.declared.refusal.Fault.TheVariants.{Malformed, OutOfRange}
 use Rattle.semantics.specs.declared.operation.Operand.{Operand}
@@ -8,7 +8,7 @@ use Rattle.semantics.specs.declared.operation.Destination.{Destination}
 use Rattle.semantics.specs.declared.operation.Destination.TheVariants as destination
 use Rattle.semantics.specs.Methods.{Op, return, jump, jump_if, jump_list, invoke, LabelDef}
 use Rattle.semantics.specs.Numbers.{is_numeral, is_positive, value_of}
-use Rattle.semantics.specs.Pieces.{Piece, piece, up_to, parted, parted_or_none}
+use Rattle.semantics.specs.Pieces.{Piece, piece, parted, parted_or_none}
 
 abbrev pub Said : Type 0 → Type 0
 Said X = Result X Fault

@@ -1,5 +1,7 @@
 // A list of at most N items, kept in an array.
-ghost use Rattle.std.specs.Prelude.{◌≡◌, ◌≤◌, length};
+ghost use Rattle.std.specs.Prelude.{◌≡◌, ◌≤◌, length, ⊤};
+
+use std::alloc::AllocError;
 
 pub mod methods;
 
@@ -8,6 +10,16 @@ pub struct ArrayVec<T, const N: usize> {
     count: usize,
     ghost few: { count ≤ N },
     ghost long: { length items ≡ N },
+}
+
+impl<T: Copy, const N: usize> Clone for ArrayVec<T, N> {
+    ghost is_clone = { λ x y. y ≡ x };
+
+    ghost is_infallible = { λ _. ⊤ };
+
+    fn clone(&self) -> Result<Self, AllocError> {
+        Ok(*self)
+    }
 }
 
 impl<T: Copy, const N: usize> Copy for ArrayVec<T, N> {}

@@ -1,4 +1,6 @@
 //! The shared types of the card, with their meaning in specs/.
+#![tactic(auto)]
+
 pub mod array_vec;
 pub mod body;
 pub mod call;

@@ -1,3 +1,5 @@
 //! Tests of lists of calls, over both class tables.
+#![tactic(auto)]
+
 #[cfg(test)]
 mod tests;

@@ -1,4 +1,6 @@
 //! Reads the text of a method, and tells whether the method is well formed.
+#![tactic(auto)]
+
 pub mod form;
 mod item;
 mod label;

@@ -1,4 +1,6 @@
 //! Fills the text of a method on the trial card: prints the filled text, or why it is refused.
+#![tactic(auto)]
+
 ghost use Rattle.std.specs.Prelude.{◌≤◌, length, IfOk};
 
 use classes::climbing::Climbing;

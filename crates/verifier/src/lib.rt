@@ -1,4 +1,6 @@
 //! Lookup, the rules for a new method row, and the check of a method, over any table of classes.
+#![tactic(auto)]
+
 pub mod check;
 pub mod labels;
 pub mod lookup;

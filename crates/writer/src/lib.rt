@@ -1,4 +1,6 @@
 //! The only text of a method, written into a lent buffer.
+#![tactic(auto)]
+
 ghost use Rattle.std.specs.Prelude.{◌≡◌, ◌≤◌, length, take, IfOk, Ok};
 ghost use Rattle.semantics.specs.Buffers.{filled, written};
 ghost use Rattle.semantics.specs.Methods.{InRange, method_of};

@@ -2,4 +2,4 @@ use Rattle.semantics.proofs.TrialHosts.{trial_card_is_reached, number_host_is_tr
 use Rattle.semantics.proofs.worked.number_host_is_true.Goals as goal
 
 pub returns : goal.returns
-returns c = record { reached = trial_card_is_reached; from-trial = number_host_is_true; from-blank = true_from_blank }
+returns c = record { reached = trial_card_is_reached; from_trial = number_host_is_true; from_blank = true_from_blank }

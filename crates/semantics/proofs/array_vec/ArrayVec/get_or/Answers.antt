@@ -1,4 +1,3 @@
-use Rattle.std.proofs.Common.{◌∙◌}
 use Rattle.semantics.proofs.Items.{get_in, get_none}
 use Rattle.semantics.proofs.array_vec.ArrayVec.get_or.Goals as goal
 

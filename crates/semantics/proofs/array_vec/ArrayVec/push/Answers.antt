@@ -1,4 +1,3 @@
-use Rattle.std.proofs.Common.{◌≡◌, length, arith, rules}
 use Rattle.semantics.proofs.Items.{push_room, push_full}
 use Rattle.semantics.proofs.array_vec.ArrayVec.push.Goals as goal
 

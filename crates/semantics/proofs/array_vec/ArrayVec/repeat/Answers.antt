@@ -1,10 +1,10 @@
-use Rattle.std.proofs.Common.{◌≡◌, ◌≤◌, min, take, replicate, ap, ◌∙◌, arith}
+use Rattle.std.proofs.Common.{◌≤◌, min, take, replicate, ap, ◌∙◌, arith}
 use Rattle.std.proofs.lemmas.List.{length-replicate}
 use Rattle.semantics.proofs.Items.{take_replicate}
 use Rattle.semantics.proofs.array_vec.ArrayVec.repeat.Goals as goal
 
-pub invariant-of-result : goal.invariant-of-result
-invariant-of-result g c = (omega (arith, c.min.ensures), (length-replicate g.row.N c.args.item, tt))
+pub invariant_of-result : goal.invariant_of-result
+invariant_of-result g c = record { few = omega (arith, c.min.ensures); long = length-replicate g.row.N c.args.item }
 
 pub returns : goal.returns
 returns g c =
