@@ -82,7 +82,7 @@ impl Opening {
 
     // Whether the classes of the values are there; the receiver has the place 0.
     pub fn present<T: ClassTable>(&self, table: &T) -> Result<(), Refusal>
-        ensures { result ≡ classes_present (listed table.now) 0 (map kind_of (self.now.receiver ∷ items_of self.now.arguments)) }
+        ensures { result ≡ classes_present (T.listed table.now) 0 (map kind_of (self.now.receiver ∷ items_of self.now.arguments)) }
     {
         present(table, 0, self.receiver.class)?;
         arguments_present(table, self.arguments.as_slice())
@@ -91,7 +91,7 @@ impl Opening {
 
 // The classes of a start's arguments, which have the places from 1 on.
 fn arguments_present<T: ClassTable>(table: &T, values: &[Value]) -> Result<(), Refusal>
-    ensures { result ≡ classes_present (listed table.now) 1 (map kind_of values.now) }
+    ensures { result ≡ classes_present (T.listed table.now) 1 (map kind_of values.now) }
 {
     for (i, value) in values.iter().enumerate() {
         present(table, 1 + i, value.class)?;
@@ -100,7 +100,7 @@ fn arguments_present<T: ClassTable>(table: &T, values: &[Value]) -> Result<(), R
 }
 
 fn present<T: ClassTable>(table: &T, place: usize, class: u8) -> Result<(), Refusal>
-    ensures { result ≡ must (present (listed table.now) class) (ClassAbsent place) }
+    ensures { result ≡ must (present (T.listed table.now) class) (ClassAbsent place) }
 {
     if class < table.count() {
         Ok(())

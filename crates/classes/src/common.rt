@@ -6,7 +6,7 @@ use crate::table::ClassTable;
 
 // The deepest class that both fit; none where one of them is absent.
 pub fn deepest_common<T: ClassTable>(table: &T, a: u8, b: u8) -> Option<u8>
-    ensures { MatchOption result ((length (listed table.now) ≤ a) ⊎ (length (listed table.now) ≤ b)) (λ j. Deepest (listed table.now) a b j) }
+    ensures { MatchOption result ((length (T.listed table.now) ≤ a) ⊎ (length (T.listed table.now) ≤ b)) (λ j. Deepest (T.listed table.now) a b j) }
 {
     let count = table.count();
     if a >= count || b >= count {

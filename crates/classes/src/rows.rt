@@ -31,15 +31,15 @@ impl Cell for Value {
 }
 
 pub fn cell_fits<T: ClassTable, C: Cell, D: Cell>(table: &T, cell: &C, other: &D) -> bool
-    ensures { result ≡ cell_fits (listed table.now) C.Cell.kind D.Cell.kind cell.now other.now }
+    ensures { result ≡ cell_fits (T.listed table.now) C.Cell.kind D.Cell.kind cell.now other.now }
 {
     table.fits(cell.class(), other.class())
 }
 
 // Whether the rows have the same length and each cell fits the one at its place.
 pub fn row_fits<T: ClassTable, C: Cell, D: Cell>(table: &T, row: &[C], other: &[D]) -> bool
-    ensures value { result ≡ row_fits (listed table.now) C.Cell.kind D.Cell.kind row.now other.now }
-    ensures cells { Decides result (FitsEach (listed table.now) C.Cell.kind D.Cell.kind row.now other.now) }
+    ensures value { result ≡ row_fits (T.listed table.now) C.Cell.kind D.Cell.kind row.now other.now }
+    ensures cells { Decides result (FitsEach (T.listed table.now) C.Cell.kind D.Cell.kind row.now other.now) }
 {
     if row.len() != other.len() {
         return false;

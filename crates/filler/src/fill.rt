@@ -40,7 +40,7 @@ pub fn fill_rows<T: ClassTable>(
     entries: &[Entry],
     method: &Method,
 ) -> Result<(Method, usize), Refusal>
-    ensures { answered filled_method result ≡ filled_among (listed table.now) (map entry_of entries.now) (method_of method.now) }
+    ensures { answered filled_method result ≡ filled_among (T.listed table.now) (map entry_of entries.now) (method_of method.now) }
 {
     let mut rows = ArrayVec::repeat(None, method.labels.len());
     for sweeps in 0..MAX_SWEEPS {
@@ -76,7 +76,7 @@ fn fill_text<T: ClassTable>(
     entries: &[Entry],
     text: &[u8],
 ) -> Result<(Method, usize), Refusal>
-    ensures { answered filled_method result ≡ filled_from (listed table.now) (map entry_of entries.now) text.now }
+    ensures { answered filled_method result ≡ filled_from (T.listed table.now) (map entry_of entries.now) text.now }
 {
     let method = read(text)?;
     form(&method)?;
@@ -93,11 +93,11 @@ pub fn fill<T: ClassTable>(
     text: &[u8],
     buffer: &mut [u8],
 ) -> Result<(usize, usize), Refusal>
-    ensures answer { result ≡ filled_answer (listed table.now) (map entry_of entries.now) text.now buffer.old }
-    ensures after { buffer.new ≡ filled_into (listed table.now) (map entry_of entries.now) text.now buffer.old }
+    ensures answer { result ≡ filled_answer (T.listed table.now) (map entry_of entries.now) text.now buffer.old }
+    ensures after { buffer.new ≡ filled_into (T.listed table.now) (map entry_of entries.now) text.now buffer.old }
     ensures bound { IfOk result (λ x. x.0 ≤ length buffer.old) }
     // the filled table passes and is the least that does; a refusal excludes every table; it ends within 913 sweeps
-    ensures laws { FillsLawfully (listed table.now) (map entry_of entries.now) text.now }
+    ensures laws { FillsLawfully (T.listed table.now) (map entry_of entries.now) text.now }
 {
     let (method, sweeps) = fill_text(table, entries, text)?;
     let len = write(&method, buffer)?;

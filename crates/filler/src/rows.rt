@@ -14,7 +14,7 @@ pub fn join_rows<T: ClassTable>(
     row: &ArrayVec<u8, 8>,
     other: &ArrayVec<u8, 8>,
 ) -> ArrayVec<u8, 8>
-    ensures { items_of result ≡ join_rows (listed table.now) (items_of row.now) (items_of other.now) }
+    ensures { items_of result ≡ join_rows (T.listed table.now) (items_of row.now) (items_of other.now) }
 {
     let mut joined = ArrayVec::new(0);
     for i in 0..row.len().min(other.len()) {
@@ -30,7 +30,7 @@ pub fn joined_into<T: ClassTable>(
     old: Option<ArrayVec<u8, 8>>,
     row: &ArrayVec<u8, 8>,
 ) -> ArrayVec<u8, 8>
-    ensures { items_of result ≡ joined_into (listed table.now) (row_of old) (items_of row.now) }
+    ensures { items_of result ≡ joined_into (T.listed table.now) (row_of old) (items_of row.now) }
 {
     match old {
         Some(old) => join_rows(table, &old, row),

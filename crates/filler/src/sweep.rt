@@ -30,7 +30,7 @@ pub struct Sweep {
 impl Sweep {
     // A row that comes to a label is joined into the label's.
     fn comes<T: ClassTable>(&mut self, table: &T, row: &ArrayVec<u8, 8>, label: usize)
-        ensures { sweep_meaning self.new ≡ comes (listed table.now) (items_of row.now) label (sweep_meaning self.old) }
+        ensures { sweep_meaning self.new ≡ comes (T.listed table.now) (items_of row.now) label (sweep_meaning self.old) }
     {
         let old = self.table.get_or(label, None);
         let new = joined_into(table, old, row);
@@ -40,7 +40,7 @@ impl Sweep {
 
     // A row that comes to each of several.
     fn comes_to<T: ClassTable>(&mut self, table: &T, row: &ArrayVec<u8, 8>, labels: &[u8])
-        ensures { sweep_meaning self.new ≡ comes_to (listed table.now) (items_of row.now) labels.now (sweep_meaning self.old) }
+        ensures { sweep_meaning self.new ≡ comes_to (T.listed table.now) (items_of row.now) labels.now (sweep_meaning self.old) }
     {
         for label in labels {
             self.comes(table, row, *label as usize);
@@ -54,7 +54,7 @@ impl Sweep {
         label: Option<usize>,
         current: Option<ArrayVec<u8, 8>>,
     )
-        ensures { sweep_meaning self.new ≡ falls_into (listed table.now) label (row_of current) (sweep_meaning self.old) }
+        ensures { sweep_meaning self.new ≡ falls_into (T.listed table.now) label (row_of current) (sweep_meaning self.old) }
     {
         if let Some(label) = label {
             if let Some(row) = current {
@@ -94,7 +94,7 @@ impl Sweep {
         row: Option<ArrayVec<u8, 8>>,
         operation: &Operation,
     ) -> Result<Option<ArrayVec<u8, 8>>, Refusal>
-        ensures { behind_as result (sweep_meaning self.new) ≡ visited (listed table.now) (map entry_of entries.now) (method_of method.now) point (row_of row) (sweep_meaning self.old) (op_of operation.now) }
+        ensures { behind_as result (sweep_meaning self.new) ≡ visited (T.listed table.now) (map entry_of entries.now) (method_of method.now) point (row_of row) (sweep_meaning self.old) (op_of operation.now) }
     {
         let Some(row) = row else {
             self.pass_over(point);
@@ -117,7 +117,7 @@ pub fn sweep_points<T: ClassTable>(
     method: &Method,
     rows: ArrayVec<Option<ArrayVec<u8, 8>>, 16>,
 ) -> Result<Sweep, Refusal>
-    ensures { answered sweep_meaning result ≡ sweep_of (listed table.now) (map entry_of entries.now) (method_of method.now) (table_of rows) }
+    ensures { answered sweep_meaning result ≡ sweep_of (T.listed table.now) (map entry_of entries.now) (method_of method.now) (table_of rows) }
 {
     let numbers = label_numbers(method.labels.as_slice());
     let mut sweep = Sweep {

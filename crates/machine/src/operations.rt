@@ -54,7 +54,7 @@ impl Frame {
         table: &T,
         labels: &[Label],
     ) -> Result<(), Misfit>
-        ensures { result ≡ at_label (listed table.now) (frame_of self.now).temporaries (label_at_point (map label_of labels.now) self.now.point) }
+        ensures { result ≡ at_label (T.listed table.now) (frame_of self.now).temporaries (label_at_point (map label_of labels.now) self.now.point) }
     {
         for label in labels {
             if label.point as usize == self.point {
@@ -76,7 +76,7 @@ impl Frame {
         res: u8,
         operand: Operand,
     ) -> Result<Value, Misfit>
-        ensures { result ≡ then (demand (fits (listed table.now) (kind_of (operand_value (frame_of self.now) operand)) res) ResultClass) (λ _. Ok (operand_value (frame_of self.now) operand)) }
+        ensures { result ≡ then (demand (fits (T.listed table.now) (kind_of (operand_value (frame_of self.now) operand)) res) ResultClass) (λ _. Ok (operand_value (frame_of self.now) operand)) }
     {
         let value = self.value(operand);
         demand(table.fits(value.class, res), Misfit::ResultClass)?;
@@ -92,7 +92,7 @@ impl Frame {
         to: Option<u8>,
     ) -> Result<usize, Misfit>
         requires { self.now.point < 64 }
-        ensures { result ≡ jump_tests (listed table.now) (frame_of self.now) (map label_of labels.now) (op_of operation.now) to }
+        ensures { result ≡ jump_tests (T.listed table.now) (frame_of self.now) (map label_of labels.now) (op_of operation.now) to }
     {
         labels_fit(table, labels, self.temporaries.as_slice(), operation)?;
         match to {
@@ -111,7 +111,7 @@ impl Frame {
         label: u8,
     ) -> Result<usize, Misfit>
         requires { self.now.point < 64 }
-        ensures { result ≡ then (demand (fits (listed table.now) (kind_of (operand_value (frame_of self.now) condition)) bool_class) Condition) (λ _. jump_tests (listed table.now) (frame_of self.now) (map label_of labels.now) (op_of operation.now) (if_not_zero (operand_value (frame_of self.now) condition).number label)) }
+        ensures { result ≡ then (demand (fits (T.listed table.now) (kind_of (operand_value (frame_of self.now) condition)) bool_class) Condition) (λ _. jump_tests (T.listed table.now) (frame_of self.now) (map label_of labels.now) (op_of operation.now) (if_not_zero (operand_value (frame_of self.now) condition).number label)) }
     {
         let value = self.value(condition);
         demand(table.fits(value.class, BOOL), Misfit::Condition)?;
@@ -129,7 +129,7 @@ impl Frame {
         list: &ArrayVec<u8, 8>,
     ) -> Result<usize, Misfit>
         requires { self.now.point < 64 }
-        ensures { result ≡ then (demand (fits (listed table.now) (kind_of (operand_value (frame_of self.now) selector)) int_class) Condition) (λ _. jump_tests (listed table.now) (frame_of self.now) (map label_of labels.now) (op_of operation.now) (chosen (items_of list.now) (operand_value (frame_of self.now) selector).number)) }
+        ensures { result ≡ then (demand (fits (T.listed table.now) (kind_of (operand_value (frame_of self.now) selector)) int_class) Condition) (λ _. jump_tests (T.listed table.now) (frame_of self.now) (map label_of labels.now) (op_of operation.now) (chosen (items_of list.now) (operand_value (frame_of self.now) selector).number)) }
     {
         let value = self.value(selector);
         demand(table.fits(value.class, INT), Misfit::Condition)?;

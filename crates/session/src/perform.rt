@@ -19,10 +19,10 @@ pub fn perform<T: ClassTable, H: Host>(
     call: &Call,
     buffer: &mut [u8],
 ) -> Response
-    ensures response { result ≡ (act reply (card_of listed card.old) (condition host.old) (call_of (length buffer.old) call.now)).response }
-    ensures card { card_of listed card.new ≡ (act reply (card_of listed card.old) (condition host.old) (call_of (length buffer.old) call.now)).card }
-    ensures host { condition host.new ≡ (act reply (card_of listed card.old) (condition host.old) (call_of (length buffer.old) call.now)).host }
-    ensures buffer { buffer.new ≡ buffer_after (card_of listed card.old) (call_of (length buffer.old) call.now) buffer.old }
+    ensures response { result ≡ (act H.reply (card_of T.listed card.old) (H.condition host.old) (call_of (length buffer.old) call.now)).response }
+    ensures card { card_of T.listed card.new ≡ (act H.reply (card_of T.listed card.old) (H.condition host.old) (call_of (length buffer.old) call.now)).card }
+    ensures host { H.condition host.new ≡ (act H.reply (card_of T.listed card.old) (H.condition host.old) (call_of (length buffer.old) call.now)).host }
+    ensures buffer { buffer.new ≡ buffer_after (card_of T.listed card.old) (call_of (length buffer.old) call.now) buffer.old }
 {
     match call {
         Call::Class { parent } => class_response(card.class(*parent)),
@@ -51,11 +51,11 @@ pub fn perform_all<T: ClassTable, H: Host>(
     buffer: &mut [u8],
     responses: &mut [Response],
 )
-    ensures after { state (card_of listed card.new) (condition host.new) ≡ after_all reply (card_of listed card.old) (condition host.old) (taken_calls (length buffer.old) (length responses.old) calls.now) }
-    ensures responses { responses.new ≡ responded_in responses.old (moments reply (card_of listed card.old) (condition host.old) (taken_calls (length buffer.old) (length responses.old) calls.now)) }
-    ensures buffer { buffer.new ≡ buffer_after_all (moments reply (card_of listed card.old) (condition host.old) (taken_calls (length buffer.old) (length responses.old) calls.now)) buffer.old }
+    ensures after { state (card_of T.listed card.new) (H.condition host.new) ≡ after_all H.reply (card_of T.listed card.old) (H.condition host.old) (taken_calls (length buffer.old) (length responses.old) calls.now) }
+    ensures responses { responses.new ≡ responded_in responses.old (moments H.reply (card_of T.listed card.old) (H.condition host.old) (taken_calls (length buffer.old) (length responses.old) calls.now)) }
+    ensures buffer { buffer.new ≡ buffer_after_all (moments H.reply (card_of T.listed card.old) (H.condition host.old) (taken_calls (length buffer.old) (length responses.old) calls.now)) buffer.old }
     // what is promised of every list of calls on a card that began blank, over every host
-    ensures promise { PromisedFrom reply (card_of listed card.old) (condition host.old) (taken_calls (length buffer.old) (length responses.old) calls.now) }
+    ensures promise { PromisedFrom H.reply (card_of T.listed card.old) (H.condition host.old) (taken_calls (length buffer.old) (length responses.old) calls.now) }
 {
     for i in 0..calls.len().min(responses.len()) {
         responses[i] = perform(card, host, &calls[i], buffer);

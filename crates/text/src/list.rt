@@ -53,7 +53,7 @@ fn append<T: Copy, const N: usize>(
 // The items that the parts say, which are at most N.
 pub fn list<T: Item, const N: usize>(parts: Parts<'_>, filler: T) -> Result<ArrayVec<T, N>, Fault>
     requires { length (parts_left parts) ≤ N }
-    ensures { mapped items_of result ≡ list_on says (Ok []) (parts_left parts.entry) }
+    ensures { mapped items_of result ≡ list_on T.says (Ok []) (parts_left parts.entry) }
 {
     let mut left = parts;
     let mut list = Ok(ArrayVec::new(filler));

@@ -10,7 +10,7 @@ use semantics::entry::Entry;
 use semantics::value::{BOOL, INT};
 
 pub fn trial_classes<T: ClassTable>() -> T
-    ensures { listed result ≡ trial_classes }
+    ensures { T.listed result ≡ trial_classes }
 {
     let mut table = T::blank();
     let _ = table.add(0);

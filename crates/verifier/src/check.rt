@@ -53,7 +53,7 @@ fn arrived<T: ClassTable>(
     point: usize,
     current: Option<ArrayVec<u8, 8>>,
 ) -> Result<Option<ArrayVec<u8, 8>>, Refusal>
-    ensures { answered row_of result ≡ arrived (listed table.now) point (row_of current) (label_at_point (map label_of labels.now) point) }
+    ensures { answered row_of result ≡ arrived (T.listed table.now) point (row_of current) (label_at_point (map label_of labels.now) point) }
 {
     let Some(wanted) = row_at(labels, point) else {
         return Ok(current);
@@ -87,7 +87,7 @@ fn point_tests<T: ClassTable>(
     row: &ArrayVec<u8, 8>,
     operation: &Operation,
 ) -> Result<ArrayVec<u8, 8>, Misfit>
-    ensures { answered items_of result ≡ point_tests (listed table.now) (map entry_of entries.now) (method_of method.now) (items_of row.now) (op_of operation.now) }
+    ensures { answered items_of result ≡ point_tests (T.listed table.now) (map entry_of entries.now) (method_of method.now) (items_of row.now) (op_of operation.now) }
 {
     let after = own_tests(table, entries, method, row, operation)?;
     labels_fit(table, method.labels.as_slice(), row.as_slice(), operation)?;
@@ -103,7 +103,7 @@ fn tested<T: ClassTable>(
     operation: &Operation,
     row: &ArrayVec<u8, 8>,
 ) -> Result<Option<ArrayVec<u8, 8>>, Refusal>
-    ensures { answered row_of result ≡ tested_row (listed table.now) (map entry_of entries.now) (method_of method.now) point (op_of operation.now) (items_of row.now) }
+    ensures { answered row_of result ≡ tested_row (T.listed table.now) (map entry_of entries.now) (method_of method.now) point (op_of operation.now) (items_of row.now) }
 {
     match point_tests(table, entries, method, row, operation) {
         Ok(after) => Ok(carried(operation, after)),
@@ -120,7 +120,7 @@ fn check_point<T: ClassTable>(
     current: Option<ArrayVec<u8, 8>>,
     operation: &Operation,
 ) -> Result<Option<ArrayVec<u8, 8>>, Refusal>
-    ensures { answered row_of result ≡ checked (listed table.now) (map entry_of entries.now) (method_of method.now) point (row_of current) (op_of operation.now) }
+    ensures { answered row_of result ≡ checked (T.listed table.now) (map entry_of entries.now) (method_of method.now) point (row_of current) (op_of operation.now) }
 {
     match arrived(table, method.labels.as_slice(), point, current)? {
         Some(row) => tested(table, entries, method, point, operation, &row),
@@ -130,7 +130,7 @@ fn check_point<T: ClassTable>(
 
 // The first fault of a method whose row is among the entries, if there is one.
 pub fn check<T: ClassTable>(table: &T, entries: &[Entry], method: &Method) -> Result<(), Refusal>
-    ensures { result ≡ check_of (listed table.now) (map entry_of entries.now) (method_of method.now) }
+    ensures { result ≡ check_of (T.listed table.now) (map entry_of entries.now) (method_of method.now) }
 {
     let mut current = Some(ArrayVec::repeat(0, method.temporaries as usize));
     let code = method.code.as_slice();

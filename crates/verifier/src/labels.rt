@@ -54,7 +54,7 @@ fn rows_fit<T: ClassTable, C: Cell>(
     named: &[u8],
 ) -> Result<(), Misfit>
     requires { first + length named.now < 2 ^ 64 }
-    ensures { result ≡ cells_fit (listed table.now) C.Cell.kind (map label_of labels.now) row.now first named.now }
+    ensures { result ≡ cells_fit (T.listed table.now) C.Cell.kind (map label_of labels.now) row.now first named.now }
 {
     for (i, label) in named.iter().enumerate() {
         let wanted = label_row(labels, *label);
@@ -73,7 +73,7 @@ pub fn labels_fit<T: ClassTable, C: Cell>(
     row: &[C],
     operation: &Operation,
 ) -> Result<(), Misfit>
-    ensures { result ≡ cells_fit (listed table.now) C.Cell.kind (map label_of labels.now) row.now (first_label (op_of operation.now)) (named_labels (op_of operation.now)) }
+    ensures { result ≡ cells_fit (T.listed table.now) C.Cell.kind (map label_of labels.now) row.now (first_label (op_of operation.now)) (named_labels (op_of operation.now)) }
 {
     let named = named_labels(operation);
     rows_fit(table, labels, row, first_label(operation), named.as_slice())

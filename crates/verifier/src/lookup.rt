@@ -16,7 +16,7 @@ struct Candidate {
 
 // The one of two whose class is lower on the way up; the earlier where they have one class.
 fn nearer<T: ClassTable>(table: &T, best: Option<Candidate>, next: Candidate) -> Candidate
-    ensures { result ≡ nearer (listed table.now) best next }
+    ensures { result ≡ nearer (T.listed table.now) best next }
 {
     match best {
         Some(best) if !table.fits(next.class, best.class) || next.class == best.class => best,
@@ -33,7 +33,7 @@ fn considered<T: ClassTable>(
     number: usize,
     entry: &Entry,
 ) -> Option<Candidate>
-    ensures { result ≡ considered (listed table.now) class name best number (entry_of entry.now) }
+    ensures { result ≡ considered (T.listed table.now) class name best number (entry_of entry.now) }
 {
     if entry.name != name || !table.fits(class, entry.class) {
         return best;
@@ -47,7 +47,7 @@ fn considered<T: ClassTable>(
 
 // The number of the row of that name on the class or on the nearest class above it.
 pub fn lookup<T: ClassTable>(table: &T, entries: &[Entry], class: u8, name: u8) -> Option<usize>
-    ensures value { result ≡ number_of (lookup (listed table.now) (map entry_of entries.now) class name) }
+    ensures value { result ≡ number_of (lookup (T.listed table.now) (map entry_of entries.now) class name) }
     ensures within { IfSome result (λ k. k < length entries.now) }
 {
     let mut best = None;

@@ -18,7 +18,7 @@ pub const MAX_ROWS: usize = 64;
 const MAX_POINTS: usize = 1024;
 
 fn present<T: ClassTable>(table: &T, place: usize, class: u8) -> Result<(), Refusal>
-    ensures { result ≡ must (present (listed table.now) class) (ClassAbsent place) }
+    ensures { result ≡ must (present (T.listed table.now) class) (ClassAbsent place) }
 {
     if class < table.count() {
         Ok(())
@@ -30,7 +30,7 @@ fn present<T: ClassTable>(table: &T, place: usize, class: u8) -> Result<(), Refu
 // Each of the classes, of which the first has the place `first`.
 fn all_present<T: ClassTable>(table: &T, first: usize, classes: &[u8]) -> Result<(), Refusal>
     requires { first + length classes.now < 2 ^ 64 }
-    ensures { result ≡ classes_present (listed table.now) first classes.now }
+    ensures { result ≡ classes_present (T.listed table.now) first classes.now }
 {
     for (i, class) in classes.iter().enumerate() {
         present(table, first + i, *class)?;
@@ -40,7 +40,7 @@ fn all_present<T: ClassTable>(table: &T, first: usize, classes: &[u8]) -> Result
 
 // The classes that a signature names.
 fn signature_present<T: ClassTable>(table: &T, entry: &Entry) -> Result<(), Refusal>
-    ensures { result ≡ classes_present (listed table.now) 0 (entry_classes (entry_of entry.now)) }
+    ensures { result ≡ classes_present (T.listed table.now) 0 (entry_classes (entry_of entry.now)) }
 {
     present(table, 0, entry.class)?;
     all_present(table, 1, entry.arguments.as_slice())?;
@@ -50,7 +50,7 @@ fn signature_present<T: ClassTable>(table: &T, entry: &Entry) -> Result<(), Refu
 // The classes of the labels' rows, of which the first has the place `first`.
 fn rows_present<T: ClassTable>(table: &T, first: usize, labels: &[Label]) -> Result<(), Refusal>
     requires { first + 8 * length labels.now < 2 ^ 64 }
-    ensures { result ≡ classes_present (listed table.now) first (row_classes (map label_of labels.now)) }
+    ensures { result ≡ classes_present (T.listed table.now) first (row_classes (map label_of labels.now)) }
 {
     let mut place = first;
     for label in labels {
@@ -86,14 +86,14 @@ fn same_signature(entry: &Entry, other: &Entry) -> bool
 
 // Whether the other row has the entry's name on a class above or below, and another signature.
 fn clashes<T: ClassTable>(table: &T, entry: &Entry, other: &Entry) -> bool
-    ensures { result ≡ clashes (listed table.now) (entry_of entry.now) (entry_of other.now) }
+    ensures { result ≡ clashes (T.listed table.now) (entry_of entry.now) (entry_of other.now) }
 {
     let in_line = table.fits(other.class, entry.class) || table.fits(entry.class, other.class);
     other.name == entry.name && in_line && !same_signature(other, entry)
 }
 
 fn agrees<T: ClassTable>(table: &T, entries: &[Entry], entry: &Entry) -> Result<(), Refusal>
-    ensures { result ≡ agrees (listed table.now) (entry_of entry.now) 0 (map entry_of entries.now) }
+    ensures { result ≡ agrees (T.listed table.now) (entry_of entry.now) 0 (map entry_of entries.now) }
 {
     for (row, other) in entries.iter().enumerate() {
         if clashes(table, entry, other) {
@@ -105,7 +105,7 @@ fn agrees<T: ClassTable>(table: &T, entries: &[Entry], entry: &Entry) -> Result<
 
 // The rules that tie a new row to the others.
 fn goes_with<T: ClassTable>(table: &T, entries: &[Entry], entry: &Entry) -> Result<(), Refusal>
-    ensures { result ≡ so (must (not (taken (entry_of entry.now) (map entry_of entries.now))) NameTaken) (λ _. agrees (listed table.now) (entry_of entry.now) 0 (map entry_of entries.now)) }
+    ensures { result ≡ so (must (not (taken (entry_of entry.now) (map entry_of entries.now))) NameTaken) (λ _. agrees (T.listed table.now) (entry_of entry.now) 0 (map entry_of entries.now)) }
 {
     if is_taken(entries, entry) {
         return Err(Refusal::NameTaken);
@@ -119,7 +119,7 @@ pub fn entry_rules<T: ClassTable>(
     entries: &[Entry],
     entry: &Entry,
 ) -> Result<(), Refusal>
-    ensures { result ≡ entry_rules (listed table.now) (map entry_of entries.now) (entry_of entry.now) (entry_classes (entry_of entry.now)) }
+    ensures { result ≡ entry_rules (T.listed table.now) (map entry_of entries.now) (entry_of entry.now) (entry_classes (entry_of entry.now)) }
 {
     signature_present(table, entry)?;
     goes_with(table, entries, entry)
@@ -143,7 +143,7 @@ pub fn method_rules<T: ClassTable>(
     entries: &[Entry],
     method: &Method,
 ) -> Result<(), Refusal>
-    ensures { result ≡ entry_rules (listed table.now) (map entry_of entries.now) (entry_in (method_of method.now)) (entry_classes (entry_in (method_of method.now)) ++ row_classes (method_of method.now).labels) }
+    ensures { result ≡ entry_rules (T.listed table.now) (map entry_of entries.now) (entry_in (method_of method.now)) (entry_classes (entry_in (method_of method.now)) ++ row_classes (method_of method.now).labels) }
 {
     let entry = entry_in(method);
     signature_present(table, &entry)?;

@@ -64,7 +64,7 @@ fn operand_classes(
 // The classes of arguments against as many that a signature declares.
 fn arguments_fit<T: ClassTable>(table: &T, given: &[u8], declared: &[u8]) -> Result<(), Misfit>
     requires { (length given.now ≡ length declared.now) × (length declared.now ≤ 7) }
-    ensures { result ≡ arguments_fit (listed table.now) 3 given.now declared.now }
+    ensures { result ≡ arguments_fit (T.listed table.now) 3 given.now declared.now }
 {
     for (i, class) in given.iter().enumerate() {
         demand(
@@ -79,7 +79,7 @@ fn arguments_fit<T: ClassTable>(table: &T, given: &[u8], declared: &[u8]) -> Res
 
 // Whether a row takes arguments of the given classes: their count, then each of them.
 pub fn taking<T: ClassTable>(table: &T, entry: &Entry, given: &[u8]) -> Result<(), Misfit>
-    ensures { result ≡ answered (λ _. tt) (taking (listed table.now) given.now (found 0 (entry_of entry.now))) }
+    ensures { result ≡ answered (λ _. tt) (taking (T.listed table.now) given.now (found 0 (entry_of entry.now))) }
 {
     demand(
         given.len() == entry.arguments.len(),
@@ -96,7 +96,7 @@ pub fn callee<T: ClassTable>(
     name: u8,
     given: &[u8],
 ) -> Result<usize, Misfit>
-    ensures value { result ≡ answered (λ f. f.number) (callee (listed table.now) (map entry_of entries.now) class name given.now) }
+    ensures value { result ≡ answered (λ f. f.number) (callee (T.listed table.now) (map entry_of entries.now) class name given.now) }
     ensures within { IfOk result (λ k. k < length entries.now) }
 {
     let Some(row) = lookup(table, entries, class, name) else {
@@ -114,7 +114,7 @@ pub fn may_hold<T: ClassTable>(
     into: Destination,
     res: u8,
 ) -> Result<(), Misfit>
-    ensures { result ≡ may_hold (listed table.now) (class ∷ items_of arguments.now) into res }
+    ensures { result ≡ may_hold (T.listed table.now) (class ∷ items_of arguments.now) into res }
 {
     match into {
         Destination::Local(n) => demand(
@@ -133,7 +133,7 @@ fn put_into<T: ClassTable>(
     into: Destination,
     class: u8,
 ) -> Result<ArrayVec<u8, 8>, Misfit>
-    ensures { answered items_of result ≡ put_into (listed table.now) (locals_of (method_of method.now)) (items_of row.now) into class }
+    ensures { answered items_of result ≡ put_into (T.listed table.now) (locals_of (method_of method.now)) (items_of row.now) into class }
 {
     may_hold(table, method.class, &method.arguments, into, class)?;
     let mut after = *row;
@@ -152,7 +152,7 @@ fn operand_fits<T: ClassTable>(
     wanted: u8,
     misfit: Misfit,
 ) -> Result<ArrayVec<u8, 8>, Misfit>
-    ensures { answered items_of result ≡ then (demand (fits (listed table.now) (operand_class (locals_of (method_of method.now)) (items_of row.now) operand) wanted) misfit) (λ _. Ok (items_of row.now)) }
+    ensures { answered items_of result ≡ then (demand (fits (T.listed table.now) (operand_class (locals_of (method_of method.now)) (items_of row.now) operand) wanted) misfit) (λ _. Ok (items_of row.now)) }
 {
     demand(
         table.fits(operand_class(method, row, operand), wanted),
@@ -171,7 +171,7 @@ fn result_class<T: ClassTable>(
     name: u8,
     arguments: &ArrayVec<Operand, 7>,
 ) -> Result<u8, Misfit>
-    ensures { result ≡ then (callee (listed table.now) (map entry_of entries.now) (operand_class (locals_of (method_of method.now)) (items_of row.now) receiver) name (map (operand_class (locals_of (method_of method.now)) (items_of row.now)) (items_of arguments.now))) (λ f. Ok f.entry.result) }
+    ensures { result ≡ then (callee (T.listed table.now) (map entry_of entries.now) (operand_class (locals_of (method_of method.now)) (items_of row.now) receiver) name (map (operand_class (locals_of (method_of method.now)) (items_of row.now)) (items_of arguments.now))) (λ f. Ok f.entry.result) }
 {
     let given = operand_classes(method, row, arguments);
     let class = operand_class(method, row, receiver);
@@ -187,7 +187,7 @@ pub fn own_tests<T: ClassTable>(
     row: &ArrayVec<u8, 8>,
     operation: &Operation,
 ) -> Result<ArrayVec<u8, 8>, Misfit>
-    ensures { answered items_of result ≡ own_tests (listed table.now) (map entry_of entries.now) (method_of method.now) (items_of row.now) (op_of operation.now) }
+    ensures { answered items_of result ≡ own_tests (T.listed table.now) (map entry_of entries.now) (method_of method.now) (items_of row.now) (op_of operation.now) }
 {
     match operation {
         Operation::Return(value) => operand_fits(

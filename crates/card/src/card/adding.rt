@@ -27,7 +27,7 @@ use verifier::rules::{entry_in, entry_rules, method_rules, room_for};
 
 impl<T: ClassTable> Card<T> {
     pub fn blank(kind: Kind) -> Card<T>
-        ensures { card_of listed result ≡ blank_card kind }
+        ensures { card_of T.listed result ≡ blank_card kind }
     {
         Card {
             kind,
@@ -39,8 +39,8 @@ impl<T: ClassTable> Card<T> {
 
     // A new class under `parent`, and its number.
     pub fn class(&mut self, parent: u32) -> Result<usize, Refusal>
-        ensures answer { result ≡ class_answer (card_of listed self.old) parent }
-        ensures after { card_of listed self.new ≡ class_after (card_of listed self.old) parent }
+        ensures answer { result ≡ class_answer (card_of T.listed self.old) parent }
+        ensures after { card_of T.listed self.new ≡ class_after (card_of T.listed self.old) parent }
     {
         let number = self.table.add(parent)?;
         Ok(number as usize)
@@ -49,8 +49,8 @@ impl<T: ClassTable> Card<T> {
     // One row more, and its number.
     fn add_row(&mut self, entry: Entry, body: Body) -> usize
         requires { length (items_of self.old.rows.entries) < 64 }
-        ensures number { result ≡ length (card_of listed self.old).store.entries }
-        ensures after { card_of listed self.new ≡ with_row (card_of listed self.old) (entry_of entry) (body_of body) }
+        ensures number { result ≡ length (card_of T.listed self.old).store.entries }
+        ensures after { card_of T.listed self.new ≡ with_row (card_of T.listed self.old) (entry_of entry) (body_of body) }
     {
         let number = self.rows.len();
         self.rows.push(entry, body);
@@ -65,7 +65,7 @@ impl<T: ClassTable> Card<T> {
         arguments: &[u32],
         res: u32,
     ) -> Result<Entry, Refusal>
-        ensures row { answered entry_of result ≡ native_row (card_of listed self.now) (signature class name arguments.now res) }
+        ensures row { answered entry_of result ≡ native_row (card_of T.listed self.now) (signature class name arguments.now res) }
         ensures room { OnOk result (length (items_of self.now.rows.entries) < 64) }
     {
         let entry = entry_of(class, name, arguments, res)?;
@@ -82,8 +82,8 @@ impl<T: ClassTable> Card<T> {
         arguments: &[u32],
         res: u32,
     ) -> Result<usize, Refusal>
-        ensures answer { result ≡ native_answer (card_of listed self.old) (signature class name arguments.now res) }
-        ensures after { card_of listed self.new ≡ native_after (card_of listed self.old) (signature class name arguments.now res) }
+        ensures answer { result ≡ native_answer (card_of T.listed self.old) (signature class name arguments.now res) }
+        ensures after { card_of T.listed self.new ≡ native_after (card_of T.listed self.old) (signature class name arguments.now res) }
     {
         let entry = self.native_entry(class, name, arguments, res)?;
         Ok(self.add_row(entry, Body::Native))
@@ -92,7 +92,7 @@ impl<T: ClassTable> Card<T> {
     // The check of a method, which only an issue card makes.
     fn checked(&self, method: &Method) -> Result<(), Refusal>
         requires { length (items_of self.now.rows.entries) < 64 }
-        ensures { result ≡ checked_on self.now.kind (listed self.now.table) (map entry_of (items_of self.now.rows.entries)) (method_of method.now) }
+        ensures { result ≡ checked_on self.now.kind (T.listed self.now.table) (map entry_of (items_of self.now.rows.entries)) (method_of method.now) }
     {
         match self.kind {
             Kind::Issue => {
@@ -105,7 +105,7 @@ impl<T: ClassTable> Card<T> {
 
     // The method of a text, where it may be added.
     fn admitted(&self, text: &[u8]) -> Result<Method, Refusal>
-        ensures method { answered method_of result ≡ loaded_method (card_of listed self.now) text.now }
+        ensures method { answered method_of result ≡ loaded_method (card_of T.listed self.now) text.now }
         ensures room { OnOk result (length (items_of self.now.rows.entries) < 64) }
     {
         let method = read(text)?;
@@ -118,8 +118,8 @@ impl<T: ClassTable> Card<T> {
 
     // A new row with the method of a text, and its number.
     pub fn load(&mut self, text: &[u8]) -> Result<usize, Refusal>
-        ensures answer { result ≡ load_answer (card_of listed self.old) text.now }
-        ensures after { card_of listed self.new ≡ load_after (card_of listed self.old) text.now }
+        ensures answer { result ≡ load_answer (card_of T.listed self.old) text.now }
+        ensures after { card_of T.listed self.new ≡ load_after (card_of T.listed self.old) text.now }
     {
         let method = self.admitted(text)?;
         Ok(self.add_row(entry_in(&method), Body::Coded(code_in(&method))))

@@ -8,7 +8,7 @@ use classes::table::ClassTable;
 
 impl<T: ClassTable> Card<T> {
     pub fn fits(&self, a: u32, b: u32) -> bool
-        ensures { result ≡ fits (card_of listed self.now).store.classes a b }
+        ensures { result ≡ fits (card_of T.listed self.now).store.classes a b }
     {
         let count = u32::from(self.table.count());
         if a >= count {
@@ -21,7 +21,7 @@ impl<T: ClassTable> Card<T> {
     }
 
     pub fn join(&self, a: u32, b: u32) -> u32
-        ensures { result ≡ join (card_of listed self.now).store.classes a b }
+        ensures { result ≡ join (card_of T.listed self.now).store.classes a b }
     {
         let count = u32::from(self.table.count());
         if a >= count {

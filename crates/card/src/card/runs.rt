@@ -17,7 +17,7 @@ const MAX_STEPS: u32 = 65535;
 impl<T: ClassTable> Card<T> {
     // Whether no run is in hand.
     fn free(&self) -> Result<(), Refusal>
-        ensures { result ≡ not_in_hand (card_of listed self.now).run }
+        ensures { result ≡ not_in_hand (card_of T.listed self.now).run }
     {
         if self.run.in_hand() {
             return Err(Refusal::RunInHand);
@@ -32,8 +32,8 @@ impl<T: ClassTable> Card<T> {
         name: u32,
         arguments: &[Offered],
     ) -> Result<(), Refusal>
-        ensures answer { result ≡ start_answer (card_of listed self.old) receiver name arguments.now }
-        ensures after { card_of listed self.new ≡ start_after (card_of listed self.old) receiver name arguments.now }
+        ensures answer { result ≡ start_answer (card_of T.listed self.old) receiver name arguments.now }
+        ensures after { card_of T.listed self.new ≡ start_after (card_of T.listed self.old) receiver name arguments.now }
     {
         self.free()?;
         let opening = Opening::of(receiver, name, arguments)?;
@@ -50,9 +50,9 @@ impl<T: ClassTable> Card<T> {
 
     // At most `steps` steps of the run in hand.
     pub fn go<H: Host>(&mut self, host: &mut H, steps: u32) -> Result<End, Refusal>
-        ensures answer { result ≡ so (gone_by (card_of listed self.old) reply steps (condition host.old)) (λ g. Ok g.end) }
-        ensures after { card_of listed self.new ≡ go_after (card_of listed self.old) reply steps (condition host.old) }
-        ensures host { condition host.new ≡ host_after (condition host.old) (gone_by (card_of listed self.old) reply steps (condition host.old)) }
+        ensures answer { result ≡ so (gone_by (card_of T.listed self.old) H.reply steps (H.condition host.old)) (λ g. Ok g.end) }
+        ensures after { card_of T.listed self.new ≡ go_after (card_of T.listed self.old) H.reply steps (H.condition host.old) }
+        ensures host { H.condition host.new ≡ host_after (H.condition host.old) (gone_by (card_of T.listed self.old) H.reply steps (H.condition host.old)) }
     {
         if steps > MAX_STEPS {
             return Err(Refusal::ArgumentOutOfRange);

@@ -14,8 +14,8 @@ use writer::write;
 impl<T: ClassTable> Card<T> {
     // The text of a method with its rows filled; answers its length and the number of sweeps.
     pub fn fill(&self, text: &[u8], buffer: &mut [u8]) -> Result<(usize, usize), Refusal>
-        ensures answer { result ≡ fill_answer (card_of listed self.now) text.now (length buffer.old) }
-        ensures after { buffer.new ≡ fill_into (card_of listed self.now) text.now buffer.old }
+        ensures answer { result ≡ fill_answer (card_of T.listed self.now) text.now (length buffer.old) }
+        ensures after { buffer.new ≡ fill_into (card_of T.listed self.now) text.now buffer.old }
         ensures bound { IfOk result (λ x. x.0 ≤ length buffer.old) }
     {
         fill(&self.table, self.rows.entries(), text, buffer)
@@ -23,8 +23,8 @@ impl<T: ClassTable> Card<T> {
 
     // The text of a row's method; answers its length.
     pub fn write(&self, row: u32, buffer: &mut [u8]) -> Result<usize, Refusal>
-        ensures answer { result ≡ write_answer (card_of listed self.now) row buffer.old }
-        ensures after { buffer.new ≡ write_into (card_of listed self.now) row buffer.old }
+        ensures answer { result ≡ write_answer (card_of T.listed self.now) row buffer.old }
+        ensures after { buffer.new ≡ write_into (card_of T.listed self.now) row buffer.old }
         ensures bound { IfOk result (λ n. n ≤ length buffer.old) }
     {
         let row = row as usize;

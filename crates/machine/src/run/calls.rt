@@ -44,8 +44,8 @@ impl Run {
         receiver: Value,
         arguments: &ArrayVec<Value, 7>,
     ) -> Result<(), Refusal>
-        ensures answer { result ≡ so (entered (listed table.now) (entry_of entry.now) row (code_of code.now) receiver (items_of arguments.now)) (λ _. Ok tt) }
-        ensures run { run_of self.new ≡ begun (run_of self.old) (entered (listed table.now) (entry_of entry.now) row (code_of code.now) receiver (items_of arguments.now)) }
+        ensures answer { result ≡ so (entered (T.listed table.now) (entry_of entry.now) row (code_of code.now) receiver (items_of arguments.now)) (λ _. Ok tt) }
+        ensures run { run_of self.new ≡ begun (run_of self.old) (entered (T.listed table.now) (entry_of entry.now) row (code_of code.now) receiver (items_of arguments.now)) }
     {
         let given = kinds(arguments);
         match taking(table, entry, given.as_slice()) {
@@ -67,8 +67,8 @@ impl Run {
         name: u8,
         arguments: &ArrayVec<Value, 7>,
     ) -> Result<(), Refusal>
-        ensures answer { result ≡ so (first_frame (store_of (listed table.now) entries.now bodies.now) receiver name (items_of arguments.now)) (λ _. Ok tt) }
-        ensures run { run_of self.new ≡ begun (run_of self.old) (first_frame (store_of (listed table.now) entries.now bodies.now) receiver name (items_of arguments.now)) }
+        ensures answer { result ≡ so (first_frame (store_of (T.listed table.now) entries.now bodies.now) receiver name (items_of arguments.now)) (λ _. Ok tt) }
+        ensures run { run_of self.new ≡ begun (run_of self.old) (first_frame (store_of (T.listed table.now) entries.now bodies.now) receiver name (items_of arguments.now)) }
     {
         let Some(row) = lookup(table, entries, receiver.class, name) else {
             return Err(Refusal::StartNoRow);
@@ -91,9 +91,9 @@ impl Run {
         host: &mut H,
         steps: usize,
     ) -> Result<End, Refusal>
-        ensures answer { result ≡ so (go_run (store_of (listed table.now) entries.now bodies.now) reply steps (condition host.old) (run_of self.old)) (λ g. Ok g.end) }
-        ensures run { run_of self.new ≡ run_after (run_of self.old) (go_run (store_of (listed table.now) entries.now bodies.now) reply steps (condition host.old) (run_of self.old)) }
-        ensures host { condition host.new ≡ host_after (condition host.old) (go_run (store_of (listed table.now) entries.now bodies.now) reply steps (condition host.old) (run_of self.old)) }
+        ensures answer { result ≡ so (go_run (store_of (T.listed table.now) entries.now bodies.now) H.reply steps (H.condition host.old) (run_of self.old)) (λ g. Ok g.end) }
+        ensures run { run_of self.new ≡ run_after (run_of self.old) (go_run (store_of (T.listed table.now) entries.now bodies.now) H.reply steps (H.condition host.old) (run_of self.old)) }
+        ensures host { H.condition host.new ≡ host_after (H.condition host.old) (go_run (store_of (T.listed table.now) entries.now bodies.now) H.reply steps (H.condition host.old) (run_of self.old)) }
     {
         let mut taken = 0;
         let mut outcome = Outcome::InHand;

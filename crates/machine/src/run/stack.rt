@@ -160,7 +160,7 @@ impl Run {
     ) -> Outcome
         requires top { 0 < self.old.depth }
         requires point { (top_of self.old).point < 64 }
-        ensures turn { turned result self.new (tt {0}) ≡ received (store_of (listed table.now) entries.now []) (top_of self.old) (rest_of self.old) tt into value }
+        ensures turn { turned result self.new (tt {0}) ≡ received (store_of (T.listed table.now) entries.now []) (top_of self.old) (rest_of self.old) tt into value }
         ensures some { 0 < self.new.depth }
     {
         let entry = entry_at(entries, self.top().row);
@@ -182,7 +182,7 @@ impl Run {
         value: Value,
     ) -> Outcome
         requires { 0 < self.old.depth }
-        ensures turn { turned result self.new (tt {0}) ≡ closed (store_of (listed table.now) entries.now bodies.now) (top_of self.old) (rest_of self.old) tt value }
+        ensures turn { turned result self.new (tt {0}) ≡ closed (store_of (T.listed table.now) entries.now bodies.now) (top_of self.old) (rest_of self.old) tt value }
         ensures some { 0 < self.new.depth }
     {
         if self.depth == 1 {

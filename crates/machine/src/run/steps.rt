@@ -32,7 +32,7 @@ impl Run {
         operand: Operand,
     ) -> Outcome
         requires { 0 < self.old.depth }
-        ensures turn { turned result self.new (tt {0}) ≡ given_back (store_of (listed table.now) entries.now bodies.now) (top_of self.old) (rest_of self.old) tt operand }
+        ensures turn { turned result self.new (tt {0}) ≡ given_back (store_of (T.listed table.now) entries.now bodies.now) (top_of self.old) (rest_of self.old) tt operand }
         ensures some { 0 < self.new.depth }
     {
         let frame = self.top();
@@ -54,7 +54,7 @@ impl Run {
     ) -> Outcome
         requires top { 0 < self.old.depth }
         requires point { (top_of self.old).point < 64 }
-        ensures turn { turned result self.new (tt {0}) ≡ answered (store_of (listed table.now) entries.now []) (top_of self.old) (rest_of self.old) into wanted (answer, tt) }
+        ensures turn { turned result self.new (tt {0}) ≡ answered (store_of (T.listed table.now) entries.now []) (top_of self.old) (rest_of self.old) into wanted (answer, tt) }
         ensures some { 0 < self.new.depth }
     {
         match answer {
@@ -81,7 +81,7 @@ impl Run {
     ) -> Outcome
         requires top { 0 < self.old.depth }
         requires point { (top_of self.old).point < 64 }
-        ensures turn { turned result self.new (condition host.new) ≡ answered (store_of (listed table.now) entries.now []) (top_of self.old) (rest_of self.old) into entry.now.result (reply (condition host.old) (question (entry_of entry.now) receiver (items_of arguments))) }
+        ensures turn { turned result self.new (H.condition host.new) ≡ answered (store_of (T.listed table.now) entries.now []) (top_of self.old) (rest_of self.old) into entry.now.result (H.reply (H.condition host.old) (question (entry_of entry.now) receiver (items_of arguments))) }
         ensures some { 0 < self.new.depth }
     {
         let question = Question {
@@ -109,7 +109,7 @@ impl Run {
     ) -> Outcome
         requires top { 0 < self.old.depth }
         requires point { (top_of self.old).point < 64 }
-        ensures turn { turned result self.new (condition host.new) ≡ called (store_of (listed table.now) entries.now bodies.now) reply (top_of self.old) (rest_of self.old) (condition host.old) into receiver (items_of arguments) (found row (entry_at (store_of (listed table.now) entries.now bodies.now) row)) (body_at (store_of (listed table.now) entries.now bodies.now) row) }
+        ensures turn { turned result self.new (H.condition host.new) ≡ called (store_of (T.listed table.now) entries.now bodies.now) H.reply (top_of self.old) (rest_of self.old) (H.condition host.old) into receiver (items_of arguments) (found row (entry_at (store_of (T.listed table.now) entries.now bodies.now) row)) (body_at (store_of (T.listed table.now) entries.now bodies.now) row) }
         ensures some { 0 < self.new.depth }
     {
         if row < bodies.len() {
@@ -135,7 +135,7 @@ impl Run {
     ) -> Outcome
         requires top { 0 < self.old.depth }
         requires point { (top_of self.old).point < 64 }
-        ensures turn { turned result self.new (condition host.new) ≡ operate (store_of (listed table.now) entries.now bodies.now) reply (top_of self.old) (rest_of self.old) (condition host.old) (invoke into receiver name (items_of arguments.now)) }
+        ensures turn { turned result self.new (H.condition host.new) ≡ operate (store_of (T.listed table.now) entries.now bodies.now) H.reply (top_of self.old) (rest_of self.old) (H.condition host.old) (invoke into receiver name (items_of arguments.now)) }
         ensures some { 0 < self.new.depth }
     {
         let frame = self.top();
@@ -158,8 +158,8 @@ impl Run {
         code: &Code,
     ) -> Outcome
         requires top { 0 < self.old.depth }
-        requires code { code_at (store_of (listed table.now) entries.now bodies.now) (top_of self.old).row ≡ code_of code.now }
-        ensures turn { turned result self.new (condition host.new) ≡ operate (store_of (listed table.now) entries.now bodies.now) reply (top_of self.old) (rest_of self.old) (condition host.old) (op_at (code_of code.now) (top_of self.old).point) }
+        requires code { code_at (store_of (T.listed table.now) entries.now bodies.now) (top_of self.old).row ≡ code_of code.now }
+        ensures turn { turned result self.new (H.condition host.new) ≡ operate (store_of (T.listed table.now) entries.now bodies.now) H.reply (top_of self.old) (rest_of self.old) (H.condition host.old) (op_at (code_of code.now) (top_of self.old).point) }
         ensures some { 0 < self.new.depth }
     {
         let points = code.points.as_slice();
@@ -204,8 +204,8 @@ impl Run {
         code: &Code,
     ) -> Outcome
         requires top { 0 < self.old.depth }
-        requires code { code_at (store_of (listed table.now) entries.now bodies.now) (top_of self.old).row ≡ code_of code.now }
-        ensures turn { turned result self.new (condition host.new) ≡ step_of (store_of (listed table.now) entries.now bodies.now) reply (top_of self.old) (rest_of self.old) (condition host.old) }
+        requires code { code_at (store_of (T.listed table.now) entries.now bodies.now) (top_of self.old).row ≡ code_of code.now }
+        ensures turn { turned result self.new (H.condition host.new) ≡ step_of (store_of (T.listed table.now) entries.now bodies.now) H.reply (top_of self.old) (rest_of self.old) (H.condition host.old) }
         ensures some { 0 < self.new.depth }
     {
         match self.top().fits_label(table, code.labels.as_slice()) {
@@ -223,7 +223,7 @@ impl Run {
         host: &mut H,
     ) -> Outcome
         requires { 0 < self.old.depth }
-        ensures turn { turned result self.new (condition host.new) ≡ step_of (store_of (listed table.now) entries.now bodies.now) reply (top_of self.old) (rest_of self.old) (condition host.old) }
+        ensures turn { turned result self.new (H.condition host.new) ≡ step_of (store_of (T.listed table.now) entries.now bodies.now) H.reply (top_of self.old) (rest_of self.old) (H.condition host.old) }
         ensures some { 0 < self.new.depth }
     {
         let row = self.top().row;

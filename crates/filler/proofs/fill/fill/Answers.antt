@@ -4,16 +4,16 @@ use Rattle.semantics.proofs.FillCalls.{fills_lawfully}
 use Rattle.filler.proofs.fill.fill.Given.{Over}
 use Rattle.filler.proofs.fill.fill.Goals as goal
 
-pub returns-in-err-method : goal.returns-in-err-method
-returns-in-err-method g c = record {
+pub returns-in_err-method : goal.returns-in_err-method
+returns-in_err-method g c = record {
   answer = search rules;
   after = search rules;
   bound = search rules;
   laws = λ m said formed rules known agree. fills_lawfully (g.T.ClassTable.listed c.args.table.now) (map entry_of c.args.entries.now) c.args.text.now (g.met.T.ClassTable.tree c.args.table.now) known agree m said formed rules;
 }
 
-pub returns-in-err-len : goal.returns-in-err-len
-returns-in-err-len g c = record {
+pub returns-in_err-len : goal.returns-in_err-len
+returns-in_err-len g c = record {
   answer = search rules;
   after = search rules;
   bound = search rules;

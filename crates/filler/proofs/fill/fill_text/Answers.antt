@@ -18,10 +18,10 @@ entered ps es m = so (entry_rules ps es (entry_in m) (entry_classes (entry_in m)
 abbrev vetted : List ℕ → List EntryDef → MethodDef → Result FilledMethod Refusal
 vetted ps es m = so (form_of m) (λ _. entered ps es m)
 
-pub returns-in-err-form : goal.returns-in-err-form
-returns-in-err-form g c =
+pub returns-in_err-form : goal.returns-in_err-form
+returns-in_err-form g c =
     let ps = g.T.ClassTable.listed c.args.table.now in
     let es = map entry_of c.args.entries.now in
-    ap (answered filled_method) (exits c.from-residual-in-err-form.result _ c.from-residual-in-err-form.ensures.1)
-    ∙ ap (λ r. so r (λ _. entered ps es (method_of c.in-ok-method.method))) c.in-err-form.ensures.value
-    ∙ ap (λ r. so r (vetted ps es)) c.in-ok-method.ensures.value
+    ap (answered filled_method) (exits c.from_residual-in_err-form.result _ c.from_residual-in_err-form.ensures.1)
+    ∙ ap (λ r. so r (λ _. entered ps es (method_of c.in_ok-method.method))) c.in_err-form.ensures.value
+    ∙ ap (λ r. so r (vetted ps es)) c.in_ok-method.ensures.value

@@ -16,7 +16,7 @@ loop-i-preserved c =
     let xs = items_of c.loop-i.numbers in
     let l = c.index-labels-i.result in
     let e : items_of c.set.new.self ≡ set xs l.point (option_or (get_or xs l.point None) (Some c.loop-i.i)) =
-    c.set.ensures ∙ ap (set xs l.point) (c.or-number.ensures ∙ ap (λ o. option_or o (Some c.loop-i.i)) c.get-or.ensures) in
+    c.set.ensures ∙ ap (set xs l.point) (c.or-number.ensures ∙ ap (λ o. option_or o (Some c.loop-i.i)) c.get_or.ensures) in
     let n = c.loop-i.invariant.1 in (
       λ p h. numbers_turn xs (items_of c.set.new.self) c.args.labels.now l c.loop-i.i p _ (omega arith) (item_at c.args.labels.now c.loop-i.i l c.loop-i-test.true c.index-labels-i.is) e (c.loop-i.invariant.0 p h),
       ap length e ∙ length-set xs l.point _ ∙ n,

@@ -17,7 +17,7 @@ loop-i-preserved g c =
     let f = few_items c.args.row.now in
     let p = pushed_on 8 c.loop-i.i (items_of c.loop-i.joined) (items_of c.push.new.self) c.join-class.result c.push.ensures.after c.loop-i.invariant.1 (omega arith) in (
       join_turn ps (items_of c.args.row.now) (items_of c.args.other.now) (items_of c.loop-i.joined) _ _ c.loop-i.i c.join-class.result (omega arith) (omega arith)
-          (c.join-class.ensures ∙ (λ i. join ps (c.get-or.ensures i) (c.get-or-in-loop-i.ensures i))) p.0 c.loop-i.invariant.0,
+          (c.join-class.ensures ∙ (λ i. join ps (c.get_or.ensures i) (c.get_or-in-loop-i.ensures i))) p.0 c.loop-i.invariant.0,
       p.1,
     )
 

@@ -1,5 +1,4 @@
 use Rattle.semantics.proofs.PromiseHolds.{promise_holds}
-use Rattle.hosts.proofs.laws.runs_are_sound.Given.{Over}
 use Rattle.hosts.proofs.laws.runs_are_sound.Goals as goal
 
 pub returns : goal.returns

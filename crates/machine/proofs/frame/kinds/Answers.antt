@@ -9,11 +9,11 @@ loop-value-init c = c.new-classes.ensures
 
 pub loop-value-preserved : goal.loop-value-preserved
 loop-value-preserved c =
-    collected kind_of 7 c.loop-value.value-index c.as-slice-value-items.result.now _ _ _ _
+    collected kind_of 7 c.loop-value.value-index c.as_slice-value-items.result.now _ _ _ _
     c.loop-value.invariant c.push.ensures.after refl c.loop-value-test.true
-    (omega (arith, ap length c.as-slice-value-items.ensures, few_items c.args.values.now))
+    (omega (arith, ap length c.as_slice-value-items.ensures, few_items c.args.values.now))
 
 pub returns : goal.returns
 returns c =
     c.loop-value.invariant
-    ∙ ap (map kind_of) (take_all c.loop-value.value-index c.as-slice-value-items.result.now c.loop-value-test.false ∙ c.as-slice-value-items.ensures)
+    ∙ ap (map kind_of) (take_all c.loop-value.value-index c.as_slice-value-items.result.now c.loop-value-test.false ∙ c.as_slice-value-items.ensures)

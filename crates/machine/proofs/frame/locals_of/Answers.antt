@@ -10,11 +10,11 @@ loop-argument-init c = sym (append-nil (items_of c.repeat-locals.result))
 
 pub loop-argument-preserved : goal.loop-argument-preserved
 loop-argument-preserved c =
-    added 8 c.loop-argument.argument-index (items_of c.repeat-locals.result) c.as-slice-argument-items.result.now _ _ _ _
+    added 8 c.loop-argument.argument-index (items_of c.repeat-locals.result) c.as_slice-argument-items.result.now _ _ _ _
     c.loop-argument.invariant c.push.ensures.after refl c.loop-argument-test.true
-    (omega (arith, ap length c.repeat-locals.ensures, ap length c.as-slice-argument-items.ensures, few_items c.args.arguments.now))
+    (omega (arith, ap length c.repeat-locals.ensures, ap length c.as_slice-argument-items.ensures, few_items c.args.arguments.now))
 
 pub returns : goal.returns
 returns c =
     c.loop-argument.invariant
-    ∙ (λ i. c.repeat-locals.ensures i ++ (take_all c.loop-argument.argument-index c.as-slice-argument-items.result.now c.loop-argument-test.false ∙ c.as-slice-argument-items.ensures) i)
+    ∙ (λ i. c.repeat-locals.ensures i ++ (take_all c.loop-argument.argument-index c.as_slice-argument-items.result.now c.loop-argument-test.false ∙ c.as_slice-argument-items.ensures) i)

@@ -13,7 +13,7 @@ loop-part-preserved g c =
     let was = mapped items_of c.loop-part.list in
     let room : IfOk was (λ xs. length xs + suc (length after) ≤ g.row.N) =
     subst (λ k. IfOk was (λ xs. length xs + k ≤ g.row.N)) (ap length l) (mapped_made items_of (λ xs. length xs + length L ≤ g.row.N) c.loop-part.list c.loop-part.invariant.1) in (
-      turn g.T-as-Item.says was (mapped items_of c.append-list.result) _ c.read.result (piece_of c.in-Some.part) L after l c.read.ensures c.append-list.ensures c.loop-part.invariant.0,
+      turn g.T.Item.says was (mapped items_of c.append-list.result) _ c.read.result (piece_of c.in-Some.part) L after l c.read.ensures c.append-list.ensures c.loop-part.invariant.0,
       made_mapped items_of (λ xs. length xs + length after ≤ g.row.N) c.append-list.result
           (subst (λ r. IfOk r (λ xs. length xs + length after ≤ g.row.N)) (sym c.append-list.ensures) (room_turn g.row.N (length after) was c.read.result room)),
     )

@@ -6,7 +6,7 @@ use Rattle.text.proofs.list.list.Given as goal
 
 abbrev pub invariant-loop-part : goal.invariant-loop-part
 invariant-loop-part g l =
-    (list_on g.T-as-Item.says (mapped items_of l.list) (parts_left l.left) ≡ list_on g.T-as-Item.says (Ok []) (parts_left l.parts))
+    (list_on g.T.Item.says (mapped items_of l.list) (parts_left l.left) ≡ list_on g.T.Item.says (Ok []) (parts_left l.parts))
     × IfOk l.list (λ v. length (items_of v) + length (parts_left l.left) ≤ g.row.N)
 
 abbrev pub decreases-loop-part : goal.decreases-loop-part

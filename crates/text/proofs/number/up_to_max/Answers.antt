@@ -2,8 +2,8 @@ use Rattle.std.proofs.Common.{sym, ◌∙◌, arith}
 use Rattle.text.proofs.Digits.{value_more, digits_parts, value_over, value_in_lem}
 use Rattle.text.proofs.number.up_to_max.Goals as goal
 
-pub overflow-sub-n : goal.overflow-sub-n
-overflow-sub-n c = omega (arith, digits_parts c.args.digits.now c.loop-digit.digit-index c.loop-digit-test.true c.loop-digit.invariant.2)
+pub overflow_sub-n : goal.overflow_sub-n
+overflow_sub-n c = omega (arith, digits_parts c.args.digits.now c.loop-digit.digit-index c.loop-digit-test.true c.loop-digit.invariant.2)
 
 pub returns-then-n-max : goal.returns-then-n-max
 returns-then-n-max c = value_over c.args.max c.loop-digit.n _ c.args.digits.now c.loop-digit.digit-index c.loop-digit-test.true c.if-n-max.true c.loop-digit.invariant.1

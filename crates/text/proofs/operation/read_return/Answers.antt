@@ -7,9 +7,9 @@ use Rattle.semantics.proofs.Walks.{exits}
 use Rattle.text.proofs.Taking.{part_ok, end_err, return_by}
 use Rattle.text.proofs.operation.read_return.Goals as goal
 
-pub returns-in-err-end : goal.returns-in-err-end
-returns-in-err-end c =
-    ap (mapped op_of) (exits c.from-residual-in-err-end.result _ c.from-residual-in-err-end.ensures.1)
+pub returns-in_err-end : goal.returns-in_err-end
+returns-in_err-end c =
+    ap (mapped op_of) (exits c.from_residual-in_err-end.result _ c.from_residual-in_err-end.ensures.1)
     ∙ sym (return_by (parts_left c.args.parts)
-    ∙ part_ok (piece_of c.in-ok-take.field-0) (parts_left c.args.parts) (parts_left c.take.new.self) _ c.in-ok-take.ensures.value c.take.ensures.after
-    ∙ end_err c.in-err-end.field-0.0 (parts_left c.take.new.self) _ c.in-err-end.ensures)
+    ∙ part_ok (piece_of c.in_ok-take.field-0) (parts_left c.args.parts) (parts_left c.take.new.self) _ c.in_ok-take.ensures.value c.take.ensures.after
+    ∙ end_err c.in_err-end.field-0.0 (parts_left c.take.new.self) _ c.in_err-end.ensures)

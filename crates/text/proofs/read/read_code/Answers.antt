@@ -13,22 +13,22 @@ use Rattle.text.proofs.read.read_code.Goals as goal
 pub loop-count-init : goal.loop-count-init
 loop-count-init c = (ap (λ x. code_on 64 (map op_of x) (left_of c.args.reader.now)) c.new-code.ensures, ap length c.new-code.ensures)
 
-pub returns-in-err-operation : goal.returns-in-err-operation
-returns-in-err-operation c =
-    ap (saying_as code_of) (exits c.from-residual.result _ c.from-residual.ensures.1)
-    ∙ code_break c.loop-count.count (code_of c.loop-count.code) (left_of c.loop-count.reader) c.in-err-operation.field-0.0 _ c.loop-count-test.true c.in-err-operation.ensures c.loop-count.invariant.0
+pub returns-in_err-operation : goal.returns-in_err-operation
+returns-in_err-operation c =
+    ap (saying_as code_of) (exits c.from_residual.result _ c.from_residual.ensures.1)
+    ∙ code_break c.loop-count.count (code_of c.loop-count.code) (left_of c.loop-count.reader) c.in_err-operation.field-0.0 _ c.loop-count-test.true c.in_err-operation.ensures c.loop-count.invariant.0
 
-pub returns-then-is-done : goal.returns-then-is-done
-returns-then-is-done c =
-    let p = push_as op_of 64 c.loop-count.count (items_of c.loop-count.code) (items_of c.push.new.self) c.in-ok-operation.operation c.push.ensures.after c.loop-count.invariant.1 c.loop-count-test.true in
-    code_done c.loop-count.count (code_of c.loop-count.code) (code_of c.push.new.self) (op_of c.in-ok-operation.operation) (left_of c.loop-count.reader) (left_of c.operation.new.self) _
-    c.loop-count-test.true c.in-ok-operation.ensures p.0 c.if-is-done.ensures c.loop-count.invariant.0
+pub returns-then-is_done : goal.returns-then-is_done
+returns-then-is_done c =
+    let p = push_as op_of 64 c.loop-count.count (items_of c.loop-count.code) (items_of c.push.new.self) c.in_ok-operation.operation c.push.ensures.after c.loop-count.invariant.1 c.loop-count-test.true in
+    code_done c.loop-count.count (code_of c.loop-count.code) (code_of c.push.new.self) (op_of c.in_ok-operation.operation) (left_of c.loop-count.reader) (left_of c.operation.new.self) _
+    c.loop-count-test.true c.in_ok-operation.ensures p.0 c.if-is_done.ensures c.loop-count.invariant.0
 
 pub loop-count-preserved : goal.loop-count-preserved
 loop-count-preserved c =
-    let p = push_as op_of 64 c.loop-count.count (items_of c.loop-count.code) (items_of c.push.new.self) c.in-ok-operation.operation c.push.ensures.after c.loop-count.invariant.1 c.loop-count-test.true in (
-      code_turn c.loop-count.count (code_of c.loop-count.code) (code_of c.push.new.self) (op_of c.in-ok-operation.operation) (left_of c.loop-count.reader) (left_of c.operation.new.self) _
-          c.loop-count-test.true c.in-ok-operation.ensures p.0 c.if-is-done.ensures c.loop-count.invariant.0,
+    let p = push_as op_of 64 c.loop-count.count (items_of c.loop-count.code) (items_of c.push.new.self) c.in_ok-operation.operation c.push.ensures.after c.loop-count.invariant.1 c.loop-count-test.true in (
+      code_turn c.loop-count.count (code_of c.loop-count.code) (code_of c.push.new.self) (op_of c.in_ok-operation.operation) (left_of c.loop-count.reader) (left_of c.operation.new.self) _
+          c.loop-count-test.true c.in_ok-operation.ensures p.0 c.if-is_done.ensures c.loop-count.invariant.0,
       p.1,
     )
 

@@ -17,16 +17,16 @@ pub returns-then-not-begins : goal.returns-then-not-begins
 returns-then-not-begins c =
     sym (labels_stop (16 - c.loop-count.count) c.args.temporaries (labels_of c.loop-count.labels) (left_of c.loop-count.reader) (sym c.if-not-begins.ensures)) ∙ c.loop-count.invariant.0
 
-pub returns-in-err-label : goal.returns-in-err-label
-returns-in-err-label c =
-    ap (λ r. read_as labels_of r (left_of c.label.new.self)) (exits c.from-residual.result _ c.from-residual.ensures.1)
-    ∙ labels_break c.loop-count.count c.args.temporaries (labels_of c.loop-count.labels) (left_of c.loop-count.reader) c.in-err-label.field-0.0 _ c.loop-count-test.true c.if-not-begins.ensures c.in-err-label.ensures c.loop-count.invariant.0
+pub returns-in_err-label : goal.returns-in_err-label
+returns-in_err-label c =
+    ap (λ r. read_as labels_of r (left_of c.label.new.self)) (exits c.from_residual.result _ c.from_residual.ensures.1)
+    ∙ labels_break c.loop-count.count c.args.temporaries (labels_of c.loop-count.labels) (left_of c.loop-count.reader) c.in_err-label.field-0.0 _ c.loop-count-test.true c.if-not-begins.ensures c.in_err-label.ensures c.loop-count.invariant.0
 
 pub loop-count-preserved : goal.loop-count-preserved
 loop-count-preserved c =
-    let p = push_as label_of 16 c.loop-count.count (items_of c.loop-count.labels) (items_of c.push.new.self) c.in-ok-label.label c.push.ensures.after c.loop-count.invariant.1 c.loop-count-test.true in (
-      labels_turn c.loop-count.count c.args.temporaries (labels_of c.loop-count.labels) (labels_of c.push.new.self) (label_of c.in-ok-label.label) (left_of c.loop-count.reader) (left_of c.label.new.self) _
-          c.loop-count-test.true c.if-not-begins.ensures c.in-ok-label.ensures p.0 c.loop-count.invariant.0,
+    let p = push_as label_of 16 c.loop-count.count (items_of c.loop-count.labels) (items_of c.push.new.self) c.in_ok-label.label c.push.ensures.after c.loop-count.invariant.1 c.loop-count-test.true in (
+      labels_turn c.loop-count.count c.args.temporaries (labels_of c.loop-count.labels) (labels_of c.push.new.self) (label_of c.in_ok-label.label) (left_of c.loop-count.reader) (left_of c.label.new.self) _
+          c.loop-count-test.true c.if-not-begins.ensures c.in_ok-label.ensures p.0 c.loop-count.invariant.0,
       p.1,
     )
 

@@ -10,21 +10,21 @@ use Rattle.verifier.proofs.check.check.Goals as goal
 
 pub loop-point-init : goal.loop-point-init
 loop-point-init g c =
-    check_starts (g.T.ClassTable.listed c.args.table.now) (map entry_of c.args.entries.now) (method_of c.args.method.now) c.as-slice-code.result.now (items_of c.repeat.result)
-    c.args.method.now.few c.repeat.ensures (ap (map op_of) c.as-slice-code.ensures)
+    check_starts (g.T.ClassTable.listed c.args.table.now) (map entry_of c.args.entries.now) (method_of c.args.method.now) c.as_slice-code.result.now (items_of c.repeat.result)
+    c.args.method.now.few c.repeat.ensures (ap (map op_of) c.as_slice-code.ensures)
 
-pub returns-in-err-current : goal.returns-in-err-current
-returns-in-err-current g c =
-    exits c.from-residual.result _ c.from-residual.ensures.1
-    ∙ check_step (g.T.ClassTable.listed c.args.table.now) (map entry_of c.args.entries.now) (method_of c.args.method.now) c.loop-point.point (row_of c.loop-point.current) c.as-slice-code.result.now c.index-code-point.result
-    (Err c.in-err-current.field-0.0) _ (item_at c.as-slice-code.result.now c.loop-point.point c.index-code-point.result c.loop-point-test.true c.index-code-point.is) c.in-err-current.ensures c.loop-point.invariant
+pub returns-in_err-current : goal.returns-in_err-current
+returns-in_err-current g c =
+    exits c.from_residual.result _ c.from_residual.ensures.1
+    ∙ check_step (g.T.ClassTable.listed c.args.table.now) (map entry_of c.args.entries.now) (method_of c.args.method.now) c.loop-point.point (row_of c.loop-point.current) c.as_slice-code.result.now c.index-code-point.result
+    (Err c.in_err-current.field-0.0) _ (item_at c.as_slice-code.result.now c.loop-point.point c.index-code-point.result c.loop-point-test.true c.index-code-point.is) c.in_err-current.ensures c.loop-point.invariant
 
 pub loop-point-preserved : goal.loop-point-preserved
 loop-point-preserved g c =
-    check_step (g.T.ClassTable.listed c.args.table.now) (map entry_of c.args.entries.now) (method_of c.args.method.now) c.loop-point.point (row_of c.loop-point.current) c.as-slice-code.result.now c.index-code-point.result
-    (Ok (row_of c.in-ok-current.current)) _ (item_at c.as-slice-code.result.now c.loop-point.point c.index-code-point.result c.loop-point-test.true c.index-code-point.is) c.in-ok-current.ensures c.loop-point.invariant
+    check_step (g.T.ClassTable.listed c.args.table.now) (map entry_of c.args.entries.now) (method_of c.args.method.now) c.loop-point.point (row_of c.loop-point.current) c.as_slice-code.result.now c.index-code-point.result
+    (Ok (row_of c.in_ok-current.current)) _ (item_at c.as_slice-code.result.now c.loop-point.point c.index-code-point.result c.loop-point-test.true c.index-code-point.is) c.in_ok-current.ensures c.loop-point.invariant
 
 pub returns : goal.returns
 returns g c =
     walk_end (λ l. check_from (g.T.ClassTable.listed c.args.table.now) (map entry_of c.args.entries.now) (method_of c.args.method.now) c.loop-point.point (row_of c.loop-point.current) (map op_of l))
-    c.as-slice-code.result.now c.loop-point.point _ c.loop-point-test.false c.loop-point.invariant
+    c.as_slice-code.result.now c.loop-point.point _ c.loop-point-test.false c.loop-point.invariant

@@ -11,12 +11,12 @@ loop-operand-init c = c.new-classes.ensures
 
 pub loop-operand-preserved : goal.loop-operand-preserved
 loop-operand-preserved c =
-    collected (operand_class (locals_of (method_of c.args.method.now)) (items_of c.args.row.now)) 7 c.loop-operand.operand-index c.as-slice-operand-items.result.now _ _ _ c.operand-class.result
-    c.loop-operand.invariant c.push.ensures.after c.operand-class.ensures c.loop-operand-test.true
-    (omega (arith, ap length c.as-slice-operand-items.ensures, few_items c.args.operands.now))
+    collected (operand_class (locals_of (method_of c.args.method.now)) (items_of c.args.row.now)) 7 c.loop-operand.operand-index c.as_slice-operand-items.result.now _ _ _ c.operand_class.result
+    c.loop-operand.invariant c.push.ensures.after c.operand_class.ensures c.loop-operand-test.true
+    (omega (arith, ap length c.as_slice-operand-items.ensures, few_items c.args.operands.now))
 
 pub returns : goal.returns
 returns c =
     c.loop-operand.invariant
     ∙ ap (map (operand_class (locals_of (method_of c.args.method.now)) (items_of c.args.row.now)))
-    (take_all c.loop-operand.operand-index c.as-slice-operand-items.result.now c.loop-operand-test.false ∙ c.as-slice-operand-items.ensures)
+    (take_all c.loop-operand.operand-index c.as_slice-operand-items.result.now c.loop-operand-test.false ∙ c.as_slice-operand-items.ensures)

@@ -4,11 +4,11 @@ use Rattle.semantics.specs.Printing.{classes_text}
 use Rattle.writer.proofs.Putting.{put_as, put_then}
 use Rattle.writer.proofs.lines.put_arguments.Goals as goal
 
-pub put-classes-end-requires : goal.put-classes-end-requires
-put-classes-end-requires c = record { fits = omega (arith, simp length-append at c.requires.fits, ap (λ l. length (classes_text l)) c.as-slice.ensures) }
+pub put_classes-end-requires : goal.put_classes-end-requires
+put_classes-end-requires c = record { fits = omega (arith, simp length-append at c.requires.fits, ap (λ l. length (classes_text l)) c.as_slice.ensures) }
 
-pub put-byte-requires : goal.put-byte-requires
-put-byte-requires c = record { fits = omega (arith, simp length-append at c.requires.fits, ap (λ l. length (classes_text l)) c.as-slice.ensures) }
+pub put_byte-requires : goal.put_byte-requires
+put_byte-requires c = record { fits = omega (arith, simp length-append at c.requires.fits, ap (λ l. length (classes_text l)) c.as_slice.ensures) }
 
 pub returns : goal.returns
-returns c = put_then c.put-bytes-value.ensures (put_then (put_as (ap classes_text c.as-slice.ensures) c.put-classes-end.ensures) c.put-byte.ensures)
+returns c = put_then c.put_bytes-value.ensures (put_then (put_as (ap classes_text c.as_slice.ensures) c.put_classes-end.ensures) c.put_byte.ensures)

@@ -3,11 +3,11 @@ use Rattle.std.proofs.lemmas.List.{length-append}
 use Rattle.writer.proofs.Putting.{put_then}
 use Rattle.writer.proofs.lines.put_code_line.Goals as goal
 
-pub put-operation-end-requires : goal.put-operation-end-requires
-put-operation-end-requires c = record { fits = omega (arith, simp length-append at c.requires.fits) }
+pub put_operation-end-requires : goal.put_operation-end-requires
+put_operation-end-requires c = record { fits = omega (arith, simp length-append at c.requires.fits) }
 
-pub put-byte-requires : goal.put-byte-requires
-put-byte-requires c = record { fits = omega (arith, simp length-append at c.requires.fits) }
+pub put_byte-requires : goal.put_byte-requires
+put_byte-requires c = record { fits = omega (arith, simp length-append at c.requires.fits) }
 
 pub returns : goal.returns
-returns c = put_then c.put-bytes-value.ensures (put_then c.put-operation-end.ensures c.put-byte.ensures)
+returns c = put_then c.put_bytes-value.ensures (put_then c.put_operation-end.ensures c.put_byte.ensures)

@@ -9,9 +9,9 @@ use Rattle.card.proofs.card.Card.load.Goals as goal
 pub returns : goal.returns
 returns g c =
     let k = card_of g.T.ClassTable.listed c.args.self.now in
-    let m = method_of c.in-ok-method.method in
-    let e = c.in-ok-method.ensures.method in
+    let m = method_of c.in_ok-method.method in
+    let e = c.in_ok-method.ensures.method in
     record {
-      answer = load_answered k c.args.text.now m c.add-row.result e c.add-row.ensures.number;
-      after = load_after_lem k _ c.args.text.now m e (c.add-row.ensures.after ∙ (λ i. with_row k (c.entry-in.ensures i) (coded (c.code-in.ensures i))));
+      answer = load_answered k c.args.text.now m c.add_row.result e c.add_row.ensures.number;
+      after = load_after_lem k _ c.args.text.now m e (c.add_row.ensures.after ∙ (λ i. with_row k (c.entry_in.ensures i) (coded (c.code_in.ensures i))));
     }

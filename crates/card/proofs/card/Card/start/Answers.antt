@@ -8,29 +8,29 @@ use Rattle.card.specs.Openings.{opening_of}
 use Rattle.card.proofs.StartFacts.{opened_on_lem, started_by, start_refused, start_begun}
 use Rattle.card.proofs.card.Card.start.Goals as goal
 
-pub returns-in-err-opening : goal.returns-in-err-opening
-returns-in-err-opening g c =
+pub returns-in_err-opening : goal.returns-in_err-opening
+returns-in_err-opening g c =
     let k : CardDef = card_of g.T.ClassTable.listed c.args.self.now in
-    let d = c.in-err-opening.field-0.0 in
-    let p = start_refused k _ c.args.receiver c.args.name c.args.arguments.now c.from-residual-in-err-opening.result d (exits c.from-residual-in-err-opening.result d c.from-residual-in-err-opening.ensures.1) refl
-    (opened_on_lem k c.args.receiver c.args.name c.args.arguments.now c.in-ok-free.ensures (Err d) c.in-err-opening.ensures) in
+    let d = c.in_err-opening.field-0.0 in
+    let p = start_refused k _ c.args.receiver c.args.name c.args.arguments.now c.from_residual-in_err-opening.result d (exits c.from_residual-in_err-opening.result d c.from_residual-in_err-opening.ensures.1) refl
+    (opened_on_lem k c.args.receiver c.args.name c.args.arguments.now c.in_ok-free.ensures (Err d) c.in_err-opening.ensures) in
     record { answer = p.0; after = p.1 }
 
-pub returns-in-err-present : goal.returns-in-err-present
-returns-in-err-present g c =
+pub returns-in_err-present : goal.returns-in_err-present
+returns-in_err-present g c =
     let k : CardDef = card_of g.T.ClassTable.listed c.args.self.now in
-    let d = c.in-err-present.field-0.0 in
-    let p = start_refused k _ c.args.receiver c.args.name c.args.arguments.now c.from-residual-in-err-present.result d (exits c.from-residual-in-err-present.result d c.from-residual-in-err-present.ensures.1) refl
-    (started_by k c.args.receiver c.args.name c.args.arguments.now c.in-ok-free.ensures (opening_of c.in-ok-opening.opening) (Err d) _ c.in-ok-opening.ensures c.in-err-present.ensures refl) in
+    let d = c.in_err-present.field-0.0 in
+    let p = start_refused k _ c.args.receiver c.args.name c.args.arguments.now c.from_residual-in_err-present.result d (exits c.from_residual-in_err-present.result d c.from_residual-in_err-present.ensures.1) refl
+    (started_by k c.args.receiver c.args.name c.args.arguments.now c.in_ok-free.ensures (opening_of c.in_ok-opening.opening) (Err d) _ c.in_ok-opening.ensures c.in_err-present.ensures refl) in
     record { answer = p.0; after = p.1 }
 
 pub returns : goal.returns
 returns g c =
     let k : CardDef = card_of g.T.ClassTable.listed c.args.self.now in
-    let o = c.in-ok-opening.opening in
+    let o = c.in_ok-opening.opening in
     let f = first_frame (store_of k.store.classes c.entries.result.now c.bodies.result.now) o.receiver o.name (items_of o.arguments) in
     let p = start_begun k _ c.args.receiver c.args.name c.args.arguments.now c.begin.result f
-    (started_by k c.args.receiver c.args.name c.args.arguments.now c.in-ok-free.ensures (opening_of o) (Ok tt) f c.in-ok-opening.ensures c.in-ok-present.ensures
+    (started_by k c.args.receiver c.args.name c.args.arguments.now c.in_ok-free.ensures (opening_of o) (Ok tt) f c.in_ok-opening.ensures c.in_ok-present.ensures
     (λ i. first_frame (store_of k.store.classes (c.entries.ensures i) (c.bodies.ensures i)) o.receiver o.name (items_of o.arguments)))
     c.begin.ensures.answer (ap (with_run k) c.begin.ensures.run) in
     record { answer = p.0; after = p.1 }

@@ -34,7 +34,7 @@ returns-in-Native g c =
 pub returns-in-Coded : goal.returns-in-Coded
 returns-in-Coded g c =
     let k = card_of g.T.ClassTable.listed c.args.self.now in
-    let e = coded_row k c.args.row (entry_of c.entry.result) (code_of c.in-Coded.code) (method_of c.method-with.result) (omega (arith, c.if-row-len.false, c.len.ensures, length-map (items_of c.args.self.now.rows.entries) entry_of)) c.entry.ensures c.in-Coded.ensures c.method-with.ensures in
+    let e = coded_row k c.args.row (entry_of c.entry.result) (code_of c.in-Coded.code) (method_of c.method_with.result) (omega (arith, c.if-row-len.false, c.len.ensures, length-map (items_of c.args.self.now.rows.entries) entry_of)) c.entry.ensures c.in-Coded.ensures c.method_with.ensures in
     record {
       answer = c.write.ensures.answer ∙ ap (λ t. so t (λ x. written x c.args.buffer.now)) (sym e);
       after = c.write.ensures.text ∙ ap (λ t. text_into t c.args.buffer.now) (sym e);

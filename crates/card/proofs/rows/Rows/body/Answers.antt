@@ -6,4 +6,4 @@ use Rattle.card.proofs.RowFacts.{item_meant}
 use Rattle.card.proofs.rows.Rows.body.Goals as goal
 
 pub returns : goal.returns
-returns c = item_meant body_of (items_of c.args.self.now.bodies) c.args.row c.get-or.result Native native c.get-or.ensures refl
+returns c = item_meant body_of (items_of c.args.self.now.bodies) c.args.row c.get_or.result Native native c.get_or.ensures refl

@@ -3,5 +3,5 @@ use Rattle.semantics.proofs.TreeOrder.{tree_shape}
 use Rattle.semantics.proofs.TreeGrowth.{blank_tree}
 use Rattle.classes.proofs.climbing.ClimbingClassTable.blank.Goals as goal
 
-pub invariant-of-result : goal.invariant-of-result
-invariant-of-result c = (omega arith, (refl, (tree_shape blank_tree, tt)))
+pub invariant_of-result : goal.invariant_of-result
+invariant_of-result c = record { few = omega arith; long = refl; tree = tree_shape blank_tree }

@@ -8,6 +8,6 @@ pub returns : goal.returns
 returns c =
     let s = c.args.self.now in
     let l = and_le_l c.mask.result c.mask-2.result in
-    c.highest-bit.ensures
+    c.highest_bit.ensures
     ∙ highest_join (table.listed s) (table.tree s) c.args.a c.args.b c.mask.result c.mask-2.result
     c.mask.ensures.bits c.mask-2.ensures.bits (omega arith)

@@ -7,5 +7,5 @@ use Rattle.filler.proofs.sweep.Sweep.row_there.Goals as goal
 
 pub returns-in-Some : goal.returns-in-Some
 returns-in-Some c =
-    ap row_of c.get-or.ensures ∙ row_in_lem (items_of c.args.self.now.table) c.in-Some.label
+    ap row_of c.get_or.ensures ∙ row_in_lem (items_of c.args.self.now.table) c.in-Some.label
     ∙ there_by c.args.label c.in-Some.label (row_of c.args.current) (sweep_meaning c.args.self.now) c.in-Some.is

@@ -15,7 +15,7 @@ pub returns-then-label-self : goal.returns-then-label-self
 returns-then-label-self g c =
     let ps = g.T.ClassTable.listed c.args.table.now in
     c.demand.ensures
-    ∙ ap (λ b. demand b (Row 15)) (c.row-fits.ensures.value ∙ (λ i. row_fits ps kind_of (λ n. n) (c.as-slice.ensures i) (c.as-slice-then-label-self.ensures i)))
+    ∙ ap (λ b. demand b (Row 15)) (c.row_fits.ensures.value ∙ (λ i. row_fits ps kind_of (λ n. n) (c.as_slice.ensures i) (c.as_slice-then-label-self.ensures i)))
     ∙ label_turn (at_label ps (frame_of c.args.self.now).temporaries) c.args.self.now.point c.loop-label.label-index c.args.labels.now c.label-item.result true _
     (item_at c.args.labels.now c.loop-label.label-index c.label-item.result c.loop-label-test.true c.label-item.is)
     (sym (eq-eqb _ _ c.if-label-self.true)) c.loop-label.invariant

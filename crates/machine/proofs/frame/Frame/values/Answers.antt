@@ -10,12 +10,12 @@ loop-operand-init c = c.new-values.ensures
 
 pub loop-operand-preserved : goal.loop-operand-preserved
 loop-operand-preserved c =
-    collected (operand_value (frame_of c.args.self.now)) 7 c.loop-operand.operand-index c.as-slice-operand-items.result.now _ _ _ c.value.result
+    collected (operand_value (frame_of c.args.self.now)) 7 c.loop-operand.operand-index c.as_slice-operand-items.result.now _ _ _ c.value.result
     c.loop-operand.invariant c.push.ensures.after c.value.ensures c.loop-operand-test.true
-    (omega (arith, ap length c.as-slice-operand-items.ensures, few_items c.args.operands.now))
+    (omega (arith, ap length c.as_slice-operand-items.ensures, few_items c.args.operands.now))
 
 pub returns : goal.returns
 returns c =
     c.loop-operand.invariant
     ∙ ap (map (operand_value (frame_of c.args.self.now)))
-    (take_all c.loop-operand.operand-index c.as-slice-operand-items.result.now c.loop-operand-test.false ∙ c.as-slice-operand-items.ensures)
+    (take_all c.loop-operand.operand-index c.as_slice-operand-items.result.now c.loop-operand-test.false ∙ c.as_slice-operand-items.ensures)

@@ -8,7 +8,7 @@ use Rattle.machine.specs.Turns.{top_of, rest_of}
 use Rattle.machine.proofs.Codes.{body_at_lem, body_past}
 use Rattle.machine.proofs.Turning.{turned_hosted, open_turn}
 use Rattle.machine.proofs.run.Run.call.Goals as goal
-use Rattle.machine.proofs.run.Run.call.Goals.{then-row-bodies+in-default, else-row-bodies}
+use Rattle.machine.proofs.run.Run.call.Goals.{then-row-bodies+in_default, else-row-bodies}
 
 pub returns-in-Coded : goal.returns-in-Coded
 returns-in-Coded g c =
@@ -30,12 +30,12 @@ returns g c =
     let r = c.args.self.now in
     let e = g.H.Host.condition c.args.host.now in
     let n : native ≡ body_at s c.args.row = elim c.if-row-bodies.branch [
-      | then-row-bodies+in-default w ↦ sym (ap body_of w.in-default.is) ∙ body_at_lem ps c.args.entries.now c.args.bodies.now c.args.row w.index-bodies-row.result w.if-row-bodies.true w.index-bodies-row.is
+      | then-row-bodies+in_default w ↦ sym (ap body_of w.in_default.is) ∙ body_at_lem ps c.args.entries.now c.args.bodies.now c.args.row w.index-bodies-row.result w.if-row-bodies.true w.index-bodies-row.is
       | else-row-bodies w ↦ body_past ps c.args.entries.now c.args.bodies.now c.args.row w.if-row-bodies.false
     ] in
     record {
       turn = c.ask.ensures.turn
-          ∙ ap (λ x. answered s (top_of r) (rest_of r) c.args.into x.result (g.H.Host.reply e (question x c.args.receiver (items_of c.args.arguments)))) c.entry-at-entry.ensures
+          ∙ ap (λ x. answered s (top_of r) (rest_of r) c.args.into x.result (g.H.Host.reply e (question x c.args.receiver (items_of c.args.arguments)))) c.entry_at-entry.ensures
           ∙ ap (called s g.H.Host.reply (top_of r) (rest_of r) e c.args.into c.args.receiver (items_of c.args.arguments) (found c.args.row (entry_at s c.args.row))) n;
       some = c.ask.ensures.some;
     }

@@ -16,7 +16,7 @@ returns g c =
     record {
       turn = c.received.ensures.turn
           ∙ ap (λ d. received (store_of ps c.args.entries.now []) (get_or fs (r.depth - 1 - 1) no_frame) (stacked fs (r.depth - 1 - 1)) tt d c.args.value)
-          (c.destination-at-into.ensures ∙ ap (λ f. destination_of (op_at (code_at (store_of [] [] b) f.row) f.point)) c.top-frame.ensures)
+          (c.destination_at-into.ensures ∙ ap (λ f. destination_of (op_at (code_at (store_of [] [] b) f.row) f.point)) c.top-frame.ensures)
           ∙ sym (ap (λ l. closed (store_of ps c.args.entries.now b) (top_of r) l tt c.args.value) (stacked_some fs (r.depth - 1) h));
       some = c.received.ensures.some;
     }

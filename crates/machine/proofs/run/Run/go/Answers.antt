@@ -32,7 +32,7 @@ returns-then-taken-steps g c =
     let n = c.args.steps - c.loop-ending.taken in
     let none : n ≡ 0 = omega (arith, c.if-taken-steps.true) in
     let inv = ap (λ o. on_from s reply n c.loop-ending.taken o (run_of r) d) (sym c.in-InHand-InHand.is-1) ∙ c.loop-ending.invariant.1 in
-    let e = turn_taken s reply n c.loop-ending.taken r d _ c.steps-taken.result some none c.steps-taken.ensures inv in
+    let e = turn_taken s reply n c.loop-ending.taken r d _ c.steps_taken.result some none c.steps_taken.ensures inv in
     let c0 = g.H.Host.condition c.args.host.now in
     let r0 = run_of c.args.self.now in
     record {

@@ -6,8 +6,8 @@ use Rattle.machine.proofs.Places.{get_map}
 use Rattle.machine.proofs.Stacks.{written, below_same, still_waiting}
 use Rattle.machine.proofs.run.Run.move_to.Goals as goal
 
-pub invariant-of-self : goal.invariant-of-self
-invariant-of-self c =
+pub invariant_of-self : goal.invariant_of-self
+invariant_of-self c =
     let r = c.args.self.now in
     (r.few, (length-set r.frames (r.depth - 1) _ ∙ r.long, (still_waiting r.frames r.depth _ r.waiting, tt)))
 
@@ -16,7 +16,7 @@ returns c =
     let r = c.args.self.now in
     let h : r.depth - 1 < length r.frames = omega (arith, r.few, r.long, c.requires) in
     record {
-      top = written r.frames (r.depth - 1) _ h ∙ c.move-to.ensures ∙ ap (λ f. moved_to f c.args.point) (get_map frame_of r.frames (r.depth - 1) c.index-frames-top.result no_frame h);
+      top = written r.frames (r.depth - 1) _ h ∙ c.move_to.ensures ∙ ap (λ f. moved_to f c.args.point) (get_map frame_of r.frames (r.depth - 1) c.index-frames-top.result no_frame h);
       rest = below_same r.frames (r.depth - 1) (r.depth - 1) _ (omega arith);
       same = refl;
     }

@@ -6,8 +6,8 @@ use Rattle.machine.specs.Frames.{frame_of, stacked}
 use Rattle.machine.proofs.Stacks.{top_waits, more_top, more_rest, stacked_length}
 use Rattle.machine.proofs.run.Run.open.Goals as goal
 
-pub invariant-of-self : goal.invariant-of-self
-invariant-of-self c =
+pub invariant_of-self : goal.invariant_of-self
+invariant_of-self c =
     let r = c.args.self.now in
     (omega arith, (length-set r.frames r.depth _ ∙ r.long, (top_waits r.frames r.depth _ r.waiting c.requires.point, tt)))
 

@@ -12,8 +12,8 @@ put-requires c =
     let P : ℕ → Type 0 = λ n. n < 64 in
     subst P (sym (ap (λ f. f.point) (get_map frame_of r.frames (r.depth - 1) c.index-frames-top.result no_frame (omega (arith, r.few, r.long, c.requires.top))))) c.requires.point
 
-pub invariant-of-self : goal.invariant-of-self
-invariant-of-self c =
+pub invariant_of-self : goal.invariant_of-self
+invariant_of-self c =
     let r = c.args.self.now in
     (r.few, (length-set r.frames (r.depth - 1) _ ∙ r.long, (still_waiting r.frames r.depth _ r.waiting, tt)))
 

@@ -9,4 +9,4 @@ use Rattle.text.proofs.reader.Reader.arguments.Goals as goal
 pub returns : goal.returns
 returns c =
     ap (λ r. read_as items_of r (left_of c.line.new.self)) c.told.ensures
-    ∙ line_said items_of (codes "args=") arguments_at (piece_of c.in-ok-value.value) (left_of c.args.self.now) (left_of c.line.new.self) c.read-arguments.result c.in-ok-value.ensures.value c.in-ok-value.ensures.after c.read-arguments.ensures
+    ∙ line_said items_of (codes "args=") arguments_at (piece_of c.in_ok-value.value) (left_of c.args.self.now) (left_of c.line.new.self) c.read_arguments.result c.in_ok-value.ensures.value c.in_ok-value.ensures.after c.read_arguments.ensures

@@ -2,24 +2,24 @@ use Rattle.std.proofs.Common.{◌≡◌, ◌-◌, ◌≤◌, length, drop, sym, 
 use Rattle.std.proofs.lemmas.List.{length-take, length-drop}
 use Rattle.text.proofs.Words.{word_within, line_found, line_behind}
 use Rattle.text.proofs.reader.Reader.line.Goals as goal
-use Rattle.text.proofs.reader.Reader.line.Goals.{Else-not-begins-with}
+use Rattle.text.proofs.reader.Reader.line.Goals.{Else-not-begins_with}
 
 -- the word lies before the end of the line
-within : (c : Else-not-begins-with) → length c.args.word.now ≤ c.up-to-end.result
-within c = let k = word_within c.args.word.now c.args.self.now.left.now c.requires (sym c.if-not-begins-with.ensures.value) in omega (arith, c.up-to-end.ensures.value)
+within : (c : Else-not-begins_with) → length c.args.word.now ≤ c.up_to-end.result
+within c = let k = word_within c.args.word.now c.args.self.now.left.now c.requires (sym c.if-not-begins_with.ensures.value) in omega (arith, c.up_to-end.ensures.value)
 
-pub slice-bounds-value-count : goal.slice-bounds-value-count
-slice-bounds-value-count c = within c
+pub slice_bounds-value-count : goal.slice_bounds-value-count
+slice_bounds-value-count c = within c
 
-pub slice-bounds-value-start : goal.slice-bounds-value-start
-slice-bounds-value-start c = let h = within c in search rules
+pub slice_bounds-value-start : goal.slice_bounds-value-start
+slice_bounds-value-start c = let h = within c in search rules
 
 pub returns : goal.returns
 returns c =
     let s = c.args.self.now in
-    let h = within (goal.at.returns c).Else-not-begins-with in
+    let h = within (goal.at.returns c).Else-not-begins_with in
     record {
-      value = line_found c.args.word.now s.left.now s.at c.up-to-end.result c.up-to-end.ensures.value c.up-to-end.ensures.bound c.if-end-left.false c.if-not-begins-with.ensures.value;
-      after = line_behind s.left.now s.at c.up-to-end.result c.up-to-end.ensures.value;
-      placed = omega (arith, length-take (c.up-to-end.result - length c.args.word.now) (drop (length c.args.word.now) s.left.now), length-drop (length c.args.word.now) s.left.now, s.placed, h, c.up-to-end.ensures.bound);
+      value = line_found c.args.word.now s.left.now s.at c.up_to-end.result c.up_to-end.ensures.value c.up_to-end.ensures.bound c.if-end-left.false c.if-not-begins_with.ensures.value;
+      after = line_behind s.left.now s.at c.up_to-end.result c.up_to-end.ensures.value;
+      placed = omega (arith, length-take (c.up_to-end.result - length c.args.word.now) (drop (length c.args.word.now) s.left.now), length-drop (length c.args.word.now) s.left.now, s.placed, h, c.up_to-end.ensures.bound);
     }

@@ -9,4 +9,4 @@ use Rattle.text.proofs.reader.Reader.operation.Goals as goal
 pub returns : goal.returns
 returns c =
     ap (λ r. read_as op_of r (left_of c.line.new.self)) c.told.ensures
-    ∙ line_said op_of (codes "op=") operation_at (piece_of c.in-ok-value.value) (left_of c.args.self.now) (left_of c.line.new.self) c.read-operation.result c.in-ok-value.ensures.value c.in-ok-value.ensures.after c.read-operation.ensures
+    ∙ line_said op_of (codes "op=") operation_at (piece_of c.in_ok-value.value) (left_of c.args.self.now) (left_of c.line.new.self) c.read_operation.result c.in_ok-value.ensures.value c.in_ok-value.ensures.after c.read_operation.ensures
