@@ -1,12 +1,12 @@
 -- Labels and code, read line by line into a bounded list.
-use Rattle.std.proofs.Common.{◌≡◌, ℕ, suc, ◌+◌, ◌-◌, ◌<◌, true, false, eqb, ltb, List, [], ◌∷◌, ◌++◌, map, length, Ok, Err, codes, Result, sym, refl, ap, ◌∙◌, arith}
+use Rattle.std.proofs.Common.{◌≡◌, ℕ, suc, ◌+◌, ◌-◌, ◌<◌, true, false, eqb, List, [], ◌∷◌, ◌++◌, map, length, Ok, Err, codes, Result, sym, ap, ◌∙◌, arith}
 use Rattle.std.proofs.lemmas.List.{length_push, map-append}
 use Rattle.std.proofs.lemmas.Bool.{lt-ltb, cond-true}
 use Rattle.semantics.specs.declared.refusal.Refusal.{Refusal}
 use Rattle.semantics.specs.Items.{pushed}
 use Rattle.semantics.specs.Methods.{Op, LabelDef}
 use Rattle.semantics.specs.Pieces.{Piece}
-use Rattle.semantics.specs.Reading.{Read, read, so, begins, line, labels_on, code_on}
+use Rattle.semantics.specs.Reading.{Read, read, begins, line, labels_on, code_on}
 use Rattle.semantics.specs.Values.{label_at, operation_at}
 use Rattle.semantics.proofs.ReadingSteps.{labels_more, labels_refused, code_last, code_more, code_refused}
 

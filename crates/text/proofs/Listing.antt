@@ -1,7 +1,6 @@
 -- A list read part by part.
-use Rattle.std.proofs.Common.{◌≡◌, ℕ, suc, ◌+◌, ◌≤◌, List, [], ◌∷◌, ◌++◌, length, IfOk, Some, None, Ok, Err, Result, sym, refl, ap, ◌∙◌, subst, arith}
+use Rattle.std.proofs.Common.{◌≡◌, ℕ, suc, ◌+◌, ◌≤◌, List, [], ◌∷◌, length, IfOk, Some, Ok, Err, sym, ap, ◌∙◌, arith}
 use Rattle.std.proofs.lemmas.List.{length_push}
-use Rattle.semantics.specs.declared.refusal.Fault.{Fault}
 use Rattle.semantics.specs.Pieces.{Piece}
 use Rattle.semantics.specs.Values.{Said, mapped, appended, list_on}
 use Rattle.text.specs.Parts.{first, rest}

@@ -1,12 +1,11 @@
 -- Values whose parts are taken one after the other.
-use Rattle.std.proofs.Common.{◌≡◌, ℕ, ◌<◌, ◌≤◌, cond, leb, List, [], ◌∷◌, length, IsErrAnd, Ok, Err, Result, sym, refl, ap, ◌∙◌, arith}
-use Rattle.std.proofs.lemmas.Result.{err_from_is_err_and}
+use Rattle.std.proofs.Common.{◌≡◌, ℕ, ◌<◌, ◌≤◌, List, [], ◌∷◌, length, Ok, Err, sym, refl, ap, ◌∙◌, arith}
 use Rattle.std.proofs.lemmas.Bool.{lt-leb, le-leb, cond-true, cond-false}
 use Rattle.semantics.specs.declared.refusal.Fault.{Fault}
 use Rattle.semantics.specs.declared.refusal.Fault.TheVariants.{Malformed, OutOfRange}
 use Rattle.semantics.specs.declared.operation.Operand.{Operand}
 use Rattle.semantics.specs.declared.operation.Destination.{Destination}
-use Rattle.semantics.specs.Methods.{Op, return, jump, jump_if, jump_list, LabelDef}
+use Rattle.semantics.specs.Methods.{Op, return, jump, jump_if, jump_list}
 use Rattle.semantics.specs.Pieces.{Piece}
 use Rattle.semantics.specs.Values.{Said, mapped, both, list_on, list_of, number_at, operand_at, destination_at, return_of, jump_of, jump_if_of, jump_list_of, invocation, invoke_of, label, row_at, label_parts}
 use Rattle.text.specs.Parts.{taken, rest, ended}

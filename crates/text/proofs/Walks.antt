@@ -1,7 +1,7 @@
 -- The turns of the walks over labels, operands and operations.
-use Rattle.std.proofs.Common.{◌≡◌, ℕ, suc, ◌+◌, ◌-◌, ◌<◌, ◌≤◌, Bool, true, false, cond, not, ◌&&◌, ◌||◌, eqb, ltb, leb, ◌⊎◌, List, [], ◌∷◌, map, length, get_or, drop, IfErr, Ok, Err, sym, refl, ap, ◌∙◌, ⊎_elim, add_assoc, arith}
-use Rattle.std.proofs.lemmas.List.{at_drop_more, at_drop_all, length-drop, length-map}
-use Rattle.std.proofs.lemmas.Bool.{and_from, and_left, and_right, or_left, or_from, le-leb, lt-leb, lt-ltb, le-ltb, eq-eqb, ne_eqb, cases_Bool, cases_eq, cond-true, cond-false}
+use Rattle.std.proofs.Common.{◌≡◌, ℕ, ◌+◌, ◌-◌, ◌<◌, ◌≤◌, Bool, true, false, cond, not, ◌&&◌, ◌||◌, eqb, ltb, leb, ◌⊎◌, List, [], ◌∷◌, map, length, drop, IfErr, Ok, Err, sym, refl, ap, ◌∙◌, ⊎_elim, add_assoc, arith}
+use Rattle.std.proofs.lemmas.List.{at_drop_all, length-drop, length-map}
+use Rattle.std.proofs.lemmas.Bool.{and_from, and_left, and_right, or_left, le-leb, lt-leb, lt-ltb, le-ltb, eq-eqb, ne_eqb, cases_eq, cond-true, cond-false}
 use Rattle.semantics.specs.declared.method.Label.{Label}
 use Rattle.semantics.specs.declared.method.Method.{Method}
 use Rattle.semantics.specs.declared.operation.Operation.{Operation}

@@ -1,12 +1,12 @@
 -- The words that lines begin with, and the lines themselves.
-use Rattle.std.proofs.Common.{◌≡◌, ℕ, suc, ◌+◌, ◌-◌, ◌^◌, ◌<◌, ◌≤◌, Bool, true, false, cond, ◌&&◌, eqb, ltb, List, [], ◌∷◌, map, length, get_or, take, drop, Ok, Err, Result, sym, refl, ap, ◌∙◌, subst, ⊎_elim, arith}
-use Rattle.std.proofs.lemmas.List.{at_drop_more, at_drop_all, take_rest, length-take, length-drop}
+use Rattle.std.proofs.Common.{◌≡◌, ℕ, suc, ◌+◌, ◌-◌, ◌<◌, ◌≤◌, Bool, true, false, ◌&&◌, eqb, ltb, List, [], ◌∷◌, length, get_or, take, drop, Ok, Err, sym, refl, ap, ◌∙◌, ⊎_elim, arith}
+use Rattle.std.proofs.lemmas.List.{at_drop_more, at_drop_all, take_rest}
 use Rattle.std.proofs.lemmas.Slice.{between_is}
-use Rattle.std.proofs.lemmas.Bool.{and_left, and_right, and_from, and_parts, eq-eqb, ne_eqb, eqb-true, lt-ltb, le-ltb, ltb-true, cases_Bool, cond-true, cond-false, false≢true}
+use Rattle.std.proofs.lemmas.Bool.{and_left, and_right, and_from, and_parts, eq-eqb, ne_eqb, eqb-true, lt-ltb, le-ltb, cases_Bool, cond-true, cond-false, false≢true}
 use Rattle.semantics.specs.declared.refusal.Refusal.{Refusal}
 use Rattle.semantics.specs.declared.refusal.Refusal.TheVariants.{Line}
 use Rattle.semantics.specs.Pieces.{Piece, piece, up_to}
-use Rattle.semantics.specs.Reading.{Read, read, so, begins, is_line, value_in, behind, said_in, line}
+use Rattle.semantics.specs.Reading.{read, so, begins, is_line, behind, said_in, line}
 use Rattle.semantics.specs.Values.{Said, mapped}
 use Rattle.text.specs.Lines.{line_of, read_as, itself}
 

@@ -1,5 +1,5 @@
 -- What the reader of lines means: what is left of the text, and what was read in front of it.
-use Rattle.std.specs.Prelude.{ℕ, cond, List, map, Ok, Err, Result}
+use Rattle.std.specs.Prelude.{ℕ, cond, List, Ok, Err, Result}
 use Rattle.semantics.specs.declared.refusal.Refusal.{Refusal}
 use Rattle.semantics.specs.declared.refusal.Refusal.TheVariants.{Line}
 use Rattle.semantics.specs.Pieces.{Piece, piece}

@@ -1,5 +1,5 @@
 -- What the reader's parts mean: pieces of the text, and lists of them.
-use Rattle.std.specs.Prelude.{ℕ, ◌+◌, ◌^◌, ◌<◌, cond, List, [], ◌∷◌, length, Some, None, Ok, Err, Option, Result}
+use Rattle.std.specs.Prelude.{◌+◌, ◌^◌, ◌<◌, cond, List, [], ◌∷◌, length, Some, None, Ok, Err, Option, Result}
 use Rattle.semantics.specs.declared.refusal.Fault.{Fault}
 use Rattle.semantics.specs.declared.refusal.Fault.TheVariants.{Malformed}
 use Rattle.semantics.specs.Pieces.{Piece, piece, parted}

@@ -1,5 +1,5 @@
 -- What the parts of a method mean as they are read.
-use Rattle.std.specs.Prelude.{ℕ, List, map, Ok, Err, Result}
+use Rattle.std.specs.Prelude.{List, map, Ok, Err, Result}
 use Rattle.semantics.specs.declared.array_vec.ArrayVec.{ArrayVec}
 use Rattle.semantics.specs.declared.method.Label.{Label}
 use Rattle.semantics.specs.declared.operation.Operation.{Operation}

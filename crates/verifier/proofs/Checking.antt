@@ -1,8 +1,8 @@
 -- The points of the check, one after the other.
-use Rattle.std.proofs.Common.{◌≡◌, ℕ, ◌+◌, ◌≤◌, min, List, [], ◌∷◌, map, drop, replicate, Some, None, Ok, Err, Option, Result, sym, refl, ap, ◌∙◌, arith}
+use Rattle.std.proofs.Common.{◌≡◌, ℕ, ◌+◌, ◌≤◌, min, List, ◌∷◌, map, drop, replicate, Some, None, Ok, Option, Result, refl, ap, ◌∙◌, arith}
 use Rattle.semantics.specs.declared.operation.Operation.{Operation}
 use Rattle.semantics.specs.declared.refusal.Refusal.{Refusal}
-use Rattle.semantics.specs.Check.{arrived, at_row, carried, label_at_point, point_tests, tested_at, check_from, check_of, zeros}
+use Rattle.semantics.specs.Check.{arrived, at_row, carried, label_at_point, point_tests, tested_at, check_from, check_of}
 use Rattle.semantics.specs.Entries.{EntryDef}
 use Rattle.semantics.specs.Form.{Formed}
 use Rattle.semantics.specs.Methods.{Op, MethodDef, op_of}

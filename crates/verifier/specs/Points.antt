@@ -1,5 +1,5 @@
 -- One point of the check.
-use Rattle.std.specs.Prelude.{ℕ, List, Some, None, Ok, Err, Option, Result}
+use Rattle.std.specs.Prelude.{ℕ, List, Some, None, Ok, Option, Result}
 use Rattle.semantics.specs.declared.refusal.Refusal.{Refusal}
 use Rattle.semantics.specs.Check.{arrived, at_row, carried, label_at_point, point_tests, tested_at}
 use Rattle.semantics.specs.Entries.{EntryDef}

@@ -1,11 +1,9 @@
-use Rattle.std.proofs.Common.{◌≡◌, ◌+◌, cond, not, ◌||◌, eqb, map, length, Ok, Err, sym, refl, ap, ◌∙◌}
-use Rattle.std.proofs.lemmas.List.{at_drop_more}
-use Rattle.semantics.specs.Form.{leaves, labels_rise, target, named_by, all_present, code_names, labelled, code_ends}
+use Rattle.std.proofs.Common.{◌+◌, cond, not, ◌||◌, eqb, map, length, Ok, refl, ap, ◌∙◌}
+use Rattle.semantics.specs.Form.{leaves, code_ends}
 use Rattle.semantics.specs.Methods.{label_of, op_of}
-use Rattle.text.specs.Scopes.{scope_from}
 use Rattle.semantics.proofs.Walks.{exits}
 use Rattle.semantics.proofs.Walks.{item_at}
-use Rattle.text.proofs.Walks.{rise_turn, rise_breaks, present_turn, present_breaks, names_turn, names_breaks, labelled_here, labelled_on, ends_turn, ends_breaks, walk_end}
+use Rattle.text.proofs.Walks.{ends_turn, ends_breaks, walk_end}
 use Rattle.text.proofs.form.code_ends.Goals as goal
 
 pub returns-in_err-must : goal.returns-in_err-must

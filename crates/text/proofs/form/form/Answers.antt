@@ -1,4 +1,4 @@
-use Rattle.std.proofs.Common.{◌≡◌, ℕ, ◌+◌, length, Ok, Err, sym, refl, ap, ◌∙◌}
+use Rattle.std.proofs.Common.{◌≡◌, ℕ, ◌+◌, length, sym, refl, ap, ◌∙◌}
 use Rattle.semantics.specs.Form.{Scope, form_of}
 use Rattle.semantics.specs.Items.{items_of}
 use Rattle.semantics.specs.Methods.{method_of}

@@ -1,11 +1,8 @@
-use Rattle.std.proofs.Common.{◌≡◌, ◌+◌, map, Ok, Err, sym, refl, ap, ◌∙◌}
-use Rattle.std.proofs.lemmas.List.{at_drop_more}
-use Rattle.semantics.specs.Form.{labels_rise, target, named_by, all_present, code_names, labelled, code_ends}
-use Rattle.semantics.specs.Methods.{label_of, op_of}
-use Rattle.text.specs.Scopes.{scope_from}
-use Rattle.semantics.proofs.Walks.{exits}
+use Rattle.std.proofs.Common.{map, Ok, refl}
+use Rattle.semantics.specs.Form.{labels_rise}
+use Rattle.semantics.specs.Methods.{label_of}
 use Rattle.semantics.proofs.Walks.{item_at}
-use Rattle.text.proofs.Walks.{rise_turn, rise_breaks, present_turn, present_breaks, names_turn, names_breaks, labelled_here, labelled_on, ends_turn, ends_breaks, walk_end}
+use Rattle.text.proofs.Walks.{rise_turn, rise_breaks, walk_end}
 use Rattle.text.proofs.form.labels_rise.Goals as goal
 
 pub returns-then-point-low : goal.returns-then-point-low

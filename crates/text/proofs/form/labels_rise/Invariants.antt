@@ -1,4 +1,4 @@
-use Rattle.std.proofs.Common.{◌≡◌, ◌≤◌, map, drop}
+use Rattle.std.proofs.Common.{◌≡◌, map, drop}
 use Rattle.semantics.specs.Form.{labels_rise}
 use Rattle.semantics.specs.Methods.{label_of}
 use Rattle.text.proofs.form.labels_rise.Given as goal

@@ -1,8 +1,8 @@
-use Rattle.std.proofs.Common.{◌≡◌, ℕ, List, Ok, Err, sym, ap, ◌∙◌}
+use Rattle.std.proofs.Common.{◌≡◌, ℕ, sym, ap, ◌∙◌}
 use Rattle.semantics.specs.declared.array_vec.ArrayVec.{ArrayVec}
 use Rattle.semantics.specs.Items.{items_of}
 use Rattle.semantics.specs.Methods.{LabelDef, label_of}
-use Rattle.semantics.specs.Values.{Said, mapped, both, number_at, row_at, label, label_parts, label_at}
+use Rattle.semantics.specs.Values.{mapped, both, number_at, row_at, label, label_parts, label_at}
 use Rattle.text.specs.Parts.{piece_of, parts_left}
 use Rattle.semantics.proofs.Walks.{exits}
 use Rattle.text.proofs.Taking.{at_end, part_ok, end_ok, end_err, label_by, both_mapped, mapped_twice}

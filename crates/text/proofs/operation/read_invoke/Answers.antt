@@ -1,10 +1,10 @@
-use Rattle.std.proofs.Common.{◌≡◌, ℕ, ◌≤◌, List, ◌∷◌, length, Ok, Err, sym, ap, ◌∙◌, ⊎_elim, arith}
+use Rattle.std.proofs.Common.{◌≡◌, ℕ, ◌≤◌, length, sym, ap, ◌∙◌, arith}
 use Rattle.semantics.specs.declared.array_vec.ArrayVec.{ArrayVec}
 use Rattle.semantics.specs.declared.operation.Operand.{Operand}
 use Rattle.semantics.specs.declared.operation.Destination.{Destination}
 use Rattle.semantics.specs.Items.{items_of}
 use Rattle.semantics.specs.Methods.{Op, op_of}
-use Rattle.semantics.specs.Values.{Said, mapped, both, number_at, operand_at, destination_at, list_of, jump_list_of, invocation, invoke_of}
+use Rattle.semantics.specs.Values.{mapped, both, number_at, operand_at, destination_at, list_of, invocation, invoke_of}
 use Rattle.text.specs.Parts.{piece_of, parts_left}
 use Rattle.semantics.proofs.Walks.{exits}
 use Rattle.text.proofs.Taking.{with_part, part_ok, part_err, invoke_by, invoked, invoked_malformed, invoked_over, list_few, list_many}

@@ -1,8 +1,7 @@
-use Rattle.std.proofs.Common.{◌≡◌, ℕ, List, ◌∷◌, Ok, Err, sym, ap, ◌∙◌, arith}
+use Rattle.std.proofs.Common.{◌≡◌, ℕ, sym, ap, ◌∙◌}
 use Rattle.semantics.specs.declared.operation.Operand.{Operand}
-use Rattle.semantics.specs.Methods.{Op, op_of, return, jump_if, jump_list}
-use Rattle.semantics.specs.Pieces.{Piece}
-use Rattle.semantics.specs.Values.{Said, mapped, both, number_at, operand_at, return_of, jump_if_of}
+use Rattle.semantics.specs.Methods.{Op, op_of, jump_if}
+use Rattle.semantics.specs.Values.{mapped, both, number_at, operand_at, jump_if_of}
 use Rattle.text.specs.Parts.{piece_of, parts_left}
 use Rattle.semantics.proofs.Walks.{exits}
 use Rattle.text.proofs.Taking.{with_part, at_end, part_ok, part_err, end_ok, end_err, jump_if_by}

@@ -1,8 +1,8 @@
-use Rattle.std.proofs.Common.{◌≡◌, ℕ, ◌≤◌, List, ◌∷◌, length, Ok, Err, sym, ap, ◌∙◌, ⊎_elim, arith}
+use Rattle.std.proofs.Common.{◌≡◌, ◌≤◌, length, sym, ap, ◌∙◌, ⊎_elim, arith}
 use Rattle.semantics.specs.declared.operation.Operand.{Operand}
 use Rattle.semantics.specs.Items.{items_of}
-use Rattle.semantics.specs.Methods.{Op, op_of}
-use Rattle.semantics.specs.Values.{Said, mapped, both, number_at, operand_at, destination_at, list_of, jump_list_of, invocation, invoke_of}
+use Rattle.semantics.specs.Methods.{op_of}
+use Rattle.semantics.specs.Values.{mapped, both, jump_list_of}
 use Rattle.text.specs.Parts.{piece_of, parts_left}
 use Rattle.semantics.proofs.Walks.{exits}
 use Rattle.text.proofs.Taking.{part_ok, jump_list_by, listed_for, listing, listed_none, listed_many, listed_few, both_mapped, mapped_twice}

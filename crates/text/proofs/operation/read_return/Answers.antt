@@ -1,7 +1,6 @@
-use Rattle.std.proofs.Common.{◌≡◌, ℕ, List, ◌∷◌, Ok, Err, sym, ap, ◌∙◌, arith}
-use Rattle.semantics.specs.Methods.{Op, op_of, return, jump_if, jump_list}
-use Rattle.semantics.specs.Pieces.{Piece}
-use Rattle.semantics.specs.Values.{Said, mapped, both, number_at, operand_at, return_of, jump_if_of}
+use Rattle.std.proofs.Common.{sym, ap, ◌∙◌}
+use Rattle.semantics.specs.Methods.{op_of}
+use Rattle.semantics.specs.Values.{mapped}
 use Rattle.text.specs.Parts.{piece_of, parts_left}
 use Rattle.semantics.proofs.Walks.{exits}
 use Rattle.text.proofs.Taking.{part_ok, end_err, return_by}

@@ -1,8 +1,7 @@
-use Rattle.std.proofs.Common.{◌≡◌, List, [], Ok, Err, Result, sym, ap, ◌∙◌}
+use Rattle.std.proofs.Common.{◌≡◌, List, [], Ok, Result, sym, ap, ◌∙◌}
 use Rattle.std.proofs.lemmas.Result.{IfOk-from_err}
 use Rattle.semantics.specs.declared.refusal.Refusal.{Refusal}
 use Rattle.semantics.specs.Methods.{LabelDef, MethodDef, method_of}
-use Rattle.semantics.specs.Pieces.{piece}
 use Rattle.semantics.specs.Reading.{Read, read, so, Head, head_at, labels_on, code_on, method_from, method_in}
 use Rattle.semantics.proofs.TextLaws.{read_was_written}
 use Rattle.text.specs.Lines.{left_of}

@@ -1,9 +1,9 @@
-use Rattle.std.proofs.Common.{◌+◌, map, Ok, Err, sym, ap, ◌∙◌}
+use Rattle.std.proofs.Common.{map, Ok, Err, ap, ◌∙◌}
 use Rattle.semantics.specs.Check.{check_from}
 use Rattle.semantics.specs.Entries.{entry_of}
 use Rattle.semantics.specs.Items.{items_of}
 use Rattle.semantics.specs.Methods.{method_of, op_of}
-use Rattle.verifier.specs.Answers.{answered, row_of}
+use Rattle.verifier.specs.Answers.{row_of}
 use Rattle.verifier.proofs.Checking.{check_step, check_starts}
 use Rattle.semantics.proofs.Walks.{exits, item_at, walk_end}
 use Rattle.verifier.proofs.check.check.Goals as goal

@@ -1,4 +1,4 @@
-use Rattle.std.proofs.Common.{true, false, map, sym, refl}
+use Rattle.std.proofs.Common.{true, false, map, sym}
 use Rattle.std.proofs.lemmas.Bool.{eq-eqb, ne_eqb}
 use Rattle.semantics.specs.Check.{label_at_point}
 use Rattle.semantics.specs.Methods.{label_of}

@@ -1,4 +1,4 @@
-use Rattle.std.proofs.Common.{true, false, map, sym, refl}
+use Rattle.std.proofs.Common.{true, false, map}
 use Rattle.semantics.specs.Entries.{entry_of}
 use Rattle.semantics.specs.NewRows.{agrees}
 use Rattle.verifier.proofs.NewEntries.{agree_step}

@@ -1,6 +1,5 @@
-use Rattle.std.proofs.Common.{◌≡◌, Bool, true, false, ◌&&◌, eqb, sym, ap, ◌∙◌}
+use Rattle.std.proofs.Common.{◌&&◌, eqb, sym, ap, ◌∙◌}
 use Rattle.std.proofs.lemmas.Slice.Eq.{slice_eq-Decides}
-use Rattle.semantics.specs.Items.{items_of}
 use Rattle.semantics.specs.NewRows.{same_list}
 use Rattle.verifier.proofs.NewEntries.{same_list_lem}
 use Rattle.verifier.proofs.rules.same_signature.Goals as goal

@@ -1,4 +1,4 @@
-use Rattle.std.proofs.Common.{◌≡◌, ◌-◌, ◌≤◌, length, drop, sym, arith, rules}
+use Rattle.std.proofs.Common.{◌-◌, ◌≤◌, length, drop, sym, arith, rules}
 use Rattle.std.proofs.lemmas.List.{length-take, length-drop}
 use Rattle.text.proofs.Words.{word_within, line_found, line_behind}
 use Rattle.text.proofs.reader.Reader.line.Goals as goal
