@@ -1,6 +1,6 @@
 -- Rows that are joined, compared and found in a table.
-use Rattle.std.proofs.Common.{◌≡◌, ℕ, zero, suc, ◌+◌, ◌<◌, ◌≤◌, min, Bool, true, false, not, ◌||◌, List, [], ◌∷◌, ◌++◌, map, length, get_or, drop, set, Some, None, Decides, Option, sym, refl, ap, ◌∙◌, ⊎_elim, append_assoc, append-nil, arith}
-use Rattle.std.specs.Cmp.Lexicographic.{Matches}
+use Rattle.std.proofs.Common.{◌≡◌, ℕ, zero, suc, ◌+◌, ◌<◌, ◌≤◌, min, Bool, not, eqb, ◌||◌, List, [], ◌∷◌, ◌++◌, map, length, get_or, drop, set, Some, None, Option, sym, refl, ap, ◌∙◌, ⊎_elim, append_assoc, append-nil, arith}
+use Rattle.std.specs.Cmp.Lexicographic.{pointwise}
 use Rattle.std.proofs.lemmas.Slice.Eq.{slice_eq-Decides}
 use Rattle.std.proofs.lemmas.List.{drop_more, drop_all, length_push, map-set}
 use Rattle.std.proofs.lemmas.Bool.{lt-ltb, cond-true, cases_lt}
@@ -42,9 +42,9 @@ pub join_end : (ps xs ys acc all : List ℕ) (i : ℕ) → min (length xs) (leng
 join_end ps xs ys acc all i h inv = sym (append-nil acc) ∙ ap (λ x. acc ++ x) (sym (join_past ps xs ys i h)) ∙ inv
 
 -- rows compared
-pub differ_by : (old : Option Row) (v : Row) (xs ys ts : List ℕ) (x r : Bool) → old ≡ Some v → xs ≡ items_of v → ys ≡ ts → Matches (λ (a b : ℕ) (t : Bool). Decides t (a ≡ b)) xs ys x → r ≡ not x → r ≡ differs (row_of old) ts
-differ_by old v xs ys ts x r o e f m n =
-    n ∙ ap not (same_list_lem xs ys x (slice_eq-Decides Decides-eqb xs ys x m))
+pub differ_by : (old : Option Row) (v : Row) (xs ys ts : List ℕ) (r : Bool) → old ≡ Some v → xs ≡ items_of v → ys ≡ ts → r ≡ not (pointwise eqb xs ys) → r ≡ differs (row_of old) ts
+differ_by old v xs ys ts r o e f n =
+    n ∙ ap not (same_list_lem xs ys (pointwise eqb xs ys) (slice_eq-Decides Decides-eqb xs ys (pointwise eqb xs ys) refl))
     ∙ (λ i. not (same_list (e i) (f i))) ∙ ap (λ q. differs (row_of q) ts) (sym o)
 
 pub alters_by : (ps : List ℕ) (o : Option (List ℕ)) (ts : List ℕ) → alters ps o ts ≡ differs o (joined_into ps o ts)

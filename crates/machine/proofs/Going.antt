@@ -1,5 +1,5 @@
 -- A go, turn by turn: what is still to come, from the outcome of the last step and the run as it stands.
-use Rattle.std.proofs.Common.{◌≡◌, ℕ, zero, suc, ◌+◌, ◌-◌, ◌<◌, List, map, Ok, Err, Result, sym, refl, ap, ◌∙◌, arith}
+use Rattle.std.proofs.Common.{◌≡◌, ℕ, zero, suc, ◌+◌, ◌<◌, List, map, Ok, Err, Result, sym, refl, ap, ◌∙◌, arith}
 use Rattle.semantics.specs.declared.ending.End.{End}
 use Rattle.semantics.specs.declared.ending.Ending.{Ending}
 use Rattle.semantics.specs.declared.ending.Ending.TheVariants.{StepsTaken}

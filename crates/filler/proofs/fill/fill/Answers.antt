@@ -1,7 +1,6 @@
 use Rattle.std.proofs.Common.{map, rules}
 use Rattle.semantics.specs.Entries.{entry_of}
 use Rattle.semantics.proofs.FillCalls.{fills_lawfully}
-use Rattle.filler.proofs.fill.fill.Given.{Over}
 use Rattle.filler.proofs.fill.fill.Goals as goal
 
 pub returns-in_err-method : goal.returns-in_err-method

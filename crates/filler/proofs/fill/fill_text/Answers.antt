@@ -1,10 +1,10 @@
-use Rattle.std.proofs.Common.{◌≡◌, ℕ, List, map, Ok, Err, Result, sym, ap, ◌∙◌}
+use Rattle.std.proofs.Common.{ℕ, List, map, Result, ap, ◌∙◌}
 use Rattle.semantics.specs.declared.refusal.Refusal.{Refusal}
 use Rattle.semantics.specs.Entries.{EntryDef, entry_of, entry_in}
 use Rattle.semantics.specs.Form.{form_of}
 use Rattle.semantics.specs.Methods.{MethodDef, method_of}
 use Rattle.semantics.specs.NewRows.{entry_classes, entry_rules}
-use Rattle.semantics.specs.Reading.{so, method_in}
+use Rattle.semantics.specs.Reading.{so}
 use Rattle.semantics.proofs.Walks.{exits}
 use Rattle.verifier.specs.Answers.{answered}
 use Rattle.semantics.specs.FillCall.{FilledMethod, among_rows, filled_among}

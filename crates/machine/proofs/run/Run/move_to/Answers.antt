@@ -9,7 +9,7 @@ use Rattle.machine.proofs.run.Run.move_to.Goals as goal
 pub invariant_of-self : goal.invariant_of-self
 invariant_of-self c =
     let r = c.args.self.now in
-    (r.few, (length-set r.frames (r.depth - 1) _ ∙ r.long, (still_waiting r.frames r.depth _ r.waiting, tt)))
+    record { few = r.few; long = length-set r.frames (r.depth - 1) _ ∙ r.long; waiting = still_waiting r.frames r.depth _ r.waiting }
 
 pub returns : goal.returns
 returns c =

@@ -9,7 +9,7 @@ use Rattle.machine.proofs.run.Run.open.Goals as goal
 pub invariant_of-self : goal.invariant_of-self
 invariant_of-self c =
     let r = c.args.self.now in
-    (omega arith, (length-set r.frames r.depth _ ∙ r.long, (top_waits r.frames r.depth _ r.waiting c.requires.point, tt)))
+    record { few = omega arith; long = length-set r.frames r.depth _ ∙ r.long; waiting = top_waits r.frames r.depth _ r.waiting c.requires.point }
 
 pub returns : goal.returns
 returns c =
