@@ -1,5 +1,5 @@
 -- The steps of a start.
-use Rattle.std.proofs.Common.{◌≡◌, ℕ, false, List, [], ◌∷◌, map, Ok, Err, Result, sym, refl, ap, ◌∙◌, arith}
+use Rattle.std.proofs.Common.{◌≡◌, ℕ, List, [], ◌∷◌, map, Ok, Err, Result, sym, refl, ap, ◌∙◌}
 use Rattle.semantics.specs.declared.call.Offered.{Offered}
 use Rattle.semantics.specs.declared.refusal.Refusal.{Refusal}
 use Rattle.semantics.specs.declared.refusal.Refusal.TheVariants.{ArgumentOutOfRange}
@@ -7,7 +7,7 @@ use Rattle.semantics.specs.Cards.{CardDef, with_run, unless_refused, start_in_ra
 use Rattle.semantics.specs.Form.{Formed, must}
 use Rattle.semantics.specs.NewRows.{classes_present}
 use Rattle.semantics.specs.Reading.{so}
-use Rattle.semantics.specs.Runs.{FrameDef, RunDef, idle, in_hand, kind_of}
+use Rattle.semantics.specs.Runs.{FrameDef, in_hand, kind_of}
 use Rattle.machine.specs.Turns.{begun}
 use Rattle.semantics.proofs.Walks.{so_so}
 use Rattle.card.specs.Openings.{OpeningDef, opening, opened}

@@ -1,10 +1,8 @@
 -- What the calls of the code mean, and what a list of them leaves.
-use Rattle.std.specs.Prelude.{◌≡◌, ℕ, List, [], ◌∷◌, ◌++◌, map, length, take, drop}
+use Rattle.std.specs.Prelude.{ℕ, List, [], ◌∷◌, ◌++◌, map, length, take, drop}
 use Rattle.semantics.specs.declared.call.Response.{Response}
-use Rattle.semantics.specs.Calls.{CallDef, class, native, load, start, go, fill, Moment, after_all, state}
-use Rattle.semantics.specs.Cards.{CardDef, blank_card, signature, fill_into}
-use Rattle.semantics.specs.Hosts.{Reply}
-use Rattle.semantics.specs.Promise.{Promise}
+use Rattle.semantics.specs.Calls.{CallDef, class, native, load, start, go, fill, Moment}
+use Rattle.semantics.specs.Cards.{CardDef, signature, fill_into}
 use Rattle.session.specs.declared.call.Call.{Call}
 use Rattle.session.specs.declared.call.Call.TheVariants as call
 
