@@ -61,7 +61,7 @@ impl<'a> Lines<'a> {
         let text = self.left;
         let mut length = 0;
         while let Some(line) = self.next() {
-            if line == b"." {
+            if line == b".".as_slice() {
                 return Some(&text[0..length]);
             }
             length = text.len() - self.left.len();
