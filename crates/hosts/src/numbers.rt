@@ -4,7 +4,8 @@ ghost use Rattle.std.specs.Int.Signed.{le_z};
 ghost use Rattle.semantics.specs.Hosts.{question_of, an_int, a_bool, shaped, argument_of, ranged, divided, eq_z, number_answer, number_reply};
 
 use crate::host::Host;
-use semantics::value::{Answer, BOOL, Cause, INT, Question, Value};
+use semantics::value::{Answer, Cause, Question, Value};
+pub use semantics::value::{BOOL, INT};
 
 #[derive(Clone, Copy)]
 pub struct Numbers;

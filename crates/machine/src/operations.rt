@@ -18,7 +18,7 @@ use semantics::misfit::Misfit;
 use semantics::operation::{Operand, Operation};
 use semantics::value::{BOOL, INT, Value};
 use verifier::check::FALLING_IN;
-use verifier::labels::labels_fit;
+use verifier::labels::named_fit;
 use verifier::tests::demand;
 // The point of a label; 0 where there is none.
 fn label_point(labels: &[Label], label: u8) -> usize
@@ -94,7 +94,7 @@ impl Frame {
         requires { self.now.point < 64 }
         ensures { result ≡ jump_tests (T.listed table.now) (frame_of self.now) (map label_of labels.now) (op_of operation.now) to }
     {
-        labels_fit(table, labels, self.temporaries.as_slice(), operation)?;
+        named_fit(table, labels, self.temporaries.as_slice(), operation)?;
         match to {
             Some(label) => Ok(label_point(labels, label)),
             None => Ok(self.point + 1),

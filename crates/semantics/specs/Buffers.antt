@@ -13,7 +13,7 @@ abbrev pub fitted : List ℕ → ℕ → Result ℕ Refusal
 fitted xs room = cond (nat_le (length xs) room) (Ok (length xs)) (Err (BufferTooShort (length xs)))
 
 abbrev pub written : List ℕ → List ℕ → Result ℕ Refusal
-written xs buf = fitted xs (length buf)
+written xs buf = cond (nat_le (length xs) (length buf)) (Ok (length xs)) (Err (BufferTooShort (length xs)))
 
 -- the buffer after it: bytes past the length stay, and all of them where it is too short
 abbrev pub filled : List ℕ → List ℕ → List ℕ

@@ -62,20 +62,20 @@ taking ps cs f =
 
 -- the row that is called by the name m on a receiver of class c with arguments of the classes cs
 abbrev pub callee : List ℕ → List EntryDef → ℕ → ℕ → List ℕ → Tested Found
-callee ps es c m cs = then (needed (lookup ps es c m) misfit.NoRow) (λ f. taking ps cs f)
+callee ps es c m cs =
+    then (needed (lookup ps es c m) misfit.NoRow) (λ f.
+    then (demand (length cs == length f.entry.arguments) (misfit.Argument 2)) (λ _.
+    then (arguments_fit ps 3 cs f.entry.arguments) (λ _. Ok f)))
 
 -- a result of class c for d: a local keeps the class that it is declared with, a temporary takes any
 abbrev pub may_hold : List ℕ → List ℕ → Destination → ℕ → Tested (Unit {0})
 may_hold ps declared (destination.Local n) c = demand (fits ps c (slice_index declared n)) misfit.ResultClass
 may_hold ps declared (destination.Temporary n) c = Ok tt
 
--- the temporaries after it was put there
-abbrev pub class_put : List ℕ → Destination → ℕ → List ℕ
-class_put ts (destination.Local n) c = ts
-class_put ts (destination.Temporary n) c = slice_set ts n c
-
+-- the temporaries after a result of class c was put into d; a local keeps the class that it is declared with
 abbrev pub put_into : List ℕ → List ℕ → List ℕ → Destination → ℕ → Tested (List ℕ)
-put_into ps declared ts d c = then (may_hold ps declared d c) (λ _. Ok (class_put ts d c))
+put_into ps declared ts (destination.Local n) c = then (demand (fits ps c (slice_index declared n)) misfit.ResultClass) (λ _. Ok ts)
+put_into ps declared ts (destination.Temporary n) c = Ok (slice_set ts n c)
 
 -- the receiver and the arguments of a method, which its locals hold at first
 abbrev pub locals_of : MethodDef → List ℕ
@@ -110,5 +110,7 @@ abbrev pub cells_fit : {X : Type 0} → List ℕ → (X → ℕ) → List LabelD
 cells_fit ps kind ls xs k [] = Ok tt
 cells_fit ps kind ls xs k (n ∷ ns) = then (demand (row_fits ps kind (λ c. c) xs (label_row ls n)) (misfit.Row k)) (λ _. cells_fit ps kind ls xs (k + 1) ns)
 
+-- the row ts against the rows of the labels ns, from the operand k on
 abbrev pub labels_fit : List ℕ → List LabelDef → List ℕ → ℕ → List ℕ → Tested (Unit {0})
-labels_fit ps ls ts k ns = cells_fit ps (λ c. c) ls ts k ns
+labels_fit ps ls ts k [] = Ok tt
+labels_fit ps ls ts k (n ∷ ns) = then (demand (classes_fit ps ts (label_row ls n)) (misfit.Row k)) (λ _. labels_fit ps ls ts (k + 1) ns)

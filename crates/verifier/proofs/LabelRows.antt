@@ -7,7 +7,7 @@ use Rattle.semantics.specs.Check.{label_at_point}
 use Rattle.semantics.specs.Items.{items_of}
 use Rattle.semantics.specs.Methods.{LabelDef, label_of}
 use Rattle.semantics.specs.Rows.{row_fits}
-use Rattle.semantics.specs.Tests.{Tested, then, demand, label_row, cells_fit}
+use Rattle.semantics.specs.Tests.{Tested, then, demand, label_row, classes_fit, cells_fit, labels_fit}
 use Rattle.verifier.specs.Points.{labelled_row}
 use Rattle.semantics.proofs.Walks.{walk_step}
 
@@ -27,6 +27,11 @@ label_step ps kind ls xs k i ns ws b t all h w f e inv =
     ap (λ n. then t (λ _. cells_fit ps kind ls xs n (drop (i + 1) ns))) (sym (add_assoc k i 1))
     ∙ walk_step (cells_fit ps kind ls xs (k + i)) (λ u. then u (λ _. cells_fit ps kind ls xs (k + i + 1) (drop (i + 1) ns))) ns i (get_or ns i 0) t _ all
     (drop_more ns i 0 h) (e ∙ ap (λ c. demand c (Row (k + i))) (f ∙ ap (row_fits ps kind (λ c. c) xs) w)) refl inv
+
+-- cells that are classes
+pub classes_are_cells : (ps : List ℕ) (ls : List LabelDef) (ts : List ℕ) (k : ℕ) (ns : List ℕ) → cells_fit ps (λ c. c) ls ts k ns ≡ labels_fit ps ls ts k ns
+classes_are_cells ps ls ts k [] = refl
+classes_are_cells ps ls ts k (n ∷ ns) = ap (λ r. then (demand (classes_fit ps ts (label_row ls n)) (Row k)) (λ _. r)) (classes_are_cells ps ls ts (k + 1) ns)
 
 -- the label of a point, or those behind it
 pub point_step : (p i : ℕ) (xs : List Label) (x : Label) (b : Bool) (all : Option (List ℕ)) → drop i xs ≡ x ∷ drop (i + 1) xs → b ≡ eqb x.point p → labelled_row (label_at_point (map label_of (drop i xs)) p) ≡ all → labelled_row (cond b (Some (label_of x)) (label_at_point (map label_of (drop (i + 1) xs)) p)) ≡ all

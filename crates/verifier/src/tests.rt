@@ -27,8 +27,8 @@ pub fn demand(holds: bool, misfit: Misfit) -> Result<(), Misfit>
     if holds { Ok(()) } else { Err(misfit) }
 }
 
-// The class that a local is declared with: the receiver's, then those of the arguments.
-fn local_class(class: u8, arguments: &ArrayVec<u8, 7>, local: u8) -> u8
+// The class that a local is declared with, in a method of a class with arguments of these classes: the receiver's, then those of the arguments.
+fn declared_class(class: u8, arguments: &ArrayVec<u8, 7>, local: u8) -> u8
     ensures { result ≡ slice_index (class ∷ items_of arguments.now) local }
 {
     if local == 0 {
@@ -37,11 +37,18 @@ fn local_class(class: u8, arguments: &ArrayVec<u8, 7>, local: u8) -> u8
     arguments.get_or((local - 1) as usize, 0)
 }
 
+// The class that a local is declared with.
+fn local_class(method: &Method, local: u8) -> u8
+    ensures { result ≡ slice_index (locals_of (method_of method.now)) local }
+{
+    declared_class(method.class, &method.arguments, local)
+}
+
 fn operand_class(method: &Method, row: &ArrayVec<u8, 8>, operand: Operand) -> u8
     ensures { result ≡ operand_class (locals_of (method_of method.now)) (items_of row.now) operand }
 {
     match operand {
-        Operand::Local(n) => local_class(method.class, &method.arguments, n),
+        Operand::Local(n) => local_class(method, n),
         Operand::Temporary(n) => row.get_or(n as usize, 0),
         Operand::Constant(_) => INT,
     }
@@ -81,11 +88,12 @@ fn arguments_fit<T: ClassTable>(table: &T, given: &[u8], declared: &[u8]) -> Res
 pub fn taking<T: ClassTable>(table: &T, entry: &Entry, given: &[u8]) -> Result<(), Misfit>
     ensures { result ≡ answered (λ _. tt) (taking (T.listed table.now) given.now (found 0 (entry_of entry.now))) }
 {
+    let declared = entry.arguments;
     demand(
-        given.len() == entry.arguments.len(),
+        given.len() == declared.len(),
         Misfit::Argument { operand: NAME },
     )?;
-    arguments_fit(table, given, entry.arguments.as_slice())
+    arguments_fit(table, given, declared.as_slice())
 }
 
 // The number of the row that a name means on a receiver of a class, with arguments of the given classes.
@@ -118,7 +126,7 @@ pub fn may_hold<T: ClassTable>(
 {
     match into {
         Destination::Local(n) => demand(
-            table.fits(res, local_class(class, arguments, n)),
+            table.fits(res, declared_class(class, arguments, n)),
             Misfit::ResultClass,
         ),
         Destination::Temporary(_) => Ok(()),

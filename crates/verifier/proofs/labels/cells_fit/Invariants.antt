@@ -1,7 +1,7 @@
 use Rattle.std.proofs.Common.{◌≡◌, ◌+◌, map, drop}
 use Rattle.semantics.specs.Methods.{label_of}
 use Rattle.semantics.specs.Tests.{cells_fit}
-use Rattle.verifier.proofs.labels.rows_fit.Given as goal
+use Rattle.verifier.proofs.labels.cells_fit.Given as goal
 
 abbrev pub invariant-loop-i : goal.invariant-loop-i
 invariant-loop-i g l =
