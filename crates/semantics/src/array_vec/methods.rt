@@ -53,6 +53,7 @@ impl<T: Copy, const N: usize> ArrayVec<T, N> {
     }
 
     // The item of that number, or another where there is none.
+    #[tactic(auto, using(crate::proofs::Items::get_in, crate::proofs::Items::get_none))]
     pub fn get_or(&self, at: usize, other: T) -> T
         ensures { result ≡ slice_index_or (items_of self.now) at other }
     {
