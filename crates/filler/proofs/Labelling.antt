@@ -15,14 +15,14 @@ or_some : {X : Type 0} (o : Option X) (x : X) (q : Option X) → option_or (opti
 or_some None x q = refl
 or_some (Some y) x q = refl
 
-get_d_none : {X : Type 0} (n p : ℕ) → ◌≡◌ {A = Option X} (get_or (replicate n None) p None) None
-get_d_none zero p = refl
-get_d_none (suc n) zero = refl
-get_d_none (suc n) (suc p) = get_d_none n p
+get_or_replicate_none : {X : Type 0} (n p : ℕ) → ◌≡◌ {A = Option X} (get_or (replicate n None) p None) None
+get_or_replicate_none zero p = refl
+get_or_replicate_none (suc n) zero = refl
+get_or_replicate_none (suc n) (suc p) = get_or_replicate_none n p
 
 -- no point has a number yet
 pub numbers_start : (n p : ℕ) (xs : List (Option ℕ)) (o : Option ℕ) → xs ≡ replicate n None → option_or (get_or xs p None) o ≡ o
-numbers_start n p xs o e = ap (λ x. option_or (get_or x p None) o) e ∙ ap (λ x. option_or x o) (get_d_none n p)
+numbers_start n p xs o e = ap (λ x. option_or (get_or x p None) o) e ∙ ap (λ x. option_or x o) (get_or_replicate_none n p)
 
 -- label i numbers its point, unless that has a number
 pub numbers_turn : (xs xs' : List (Option ℕ)) (ls : List Label) (l : Label) (i p : ℕ) (all : Option ℕ) → p < length xs → drop i ls ≡ l ∷ drop (i + 1) ls → xs' ≡ set xs l.point (option_or (get_or xs l.point None) (Some i)) → option_or (get_or xs p None) (label_number (map label_of (drop i ls)) i p) ≡ all → option_or (get_or xs' p None) (label_number (map label_of (drop (i + 1) ls)) (i + 1) p) ≡ all

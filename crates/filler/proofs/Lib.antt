@@ -3,3 +3,4 @@ pub mod Labelling
 pub mod Sweeping
 pub mod Filling
 pub mod Knowing
+pub mod Lawful

@@ -13,8 +13,8 @@ use Rattle.semantics.proofs.ItemPlaces.{each_push}
 use Rattle.semantics.proofs.LineTexts.{from_so}
 use Rattle.semantics.proofs.TextLaws.{read_was_written}
 
-pub fills_lawfully : (ps : List ℕ) (es : List EntryDef) (t : List ℕ) → Tree ps → Each (EntryKnown ps) es → Agree ps es → TextFillsLawfully ps es t
-fills_lawfully ps es t tree known agree m said formed rules =
+pub text_fills_lawfully : (ps : List ℕ) (es : List EntryDef) (t : List ℕ) → Tree ps → Each (EntryKnown ps) es → Agree ps es → TextFillsLawfully ps es t
+text_fills_lawfully ps es t tree known agree m said formed rules =
     let r = (read_was_written t m said).1 in
     let c = from_so (classes_present ps 0 (entry_classes (entry_in m))) _ tt rules in
     let k : EntryKnown ps (entry_in m) = classes_known ps 0 (entry_classes (entry_in m)) c.1 in

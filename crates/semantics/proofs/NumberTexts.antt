@@ -18,7 +18,7 @@ own = numerals_by_fold _ tells_all_ascii_digits value_on (search rules)
 pub is_digit : (c : ℕ) → is_ascii_digit c ≡ true → (48 ≤ c) × (c ≤ 57)
 is_digit c h = search (rules, and_parts, leb-true)
 
--- what `isNumeral` tells, in parts
+-- what `is_numeral` tells, in parts
 pub numeral_parts : (ds : List ℕ) → is_numeral ds ≡ true → (all_ascii_digits ds ≡ true) × (0 < length ds) × (get_or ds 0 0 ≡ 48 → length ds ≡ 1)
 numeral_parts [] h = absurd (false≢true h)
 numeral_parts (c ∷ cs) h = from_cond (eqb c 48) _ _ true h

@@ -23,7 +23,7 @@ use Rattle.semantics.specs.Runs.{FrameDef, RunDef, idle, in_hand, Gone, go_from,
 use Rattle.semantics.specs.Stores.{Store, coded, code_in}
 use Rattle.semantics.specs.Stores as stores
 use Rattle.semantics.proofs.CardFacts.{Checked, Grows}
-use Rattle.semantics.proofs.FillCalls.{fills_lawfully}
+use Rattle.semantics.proofs.FillCalls.{text_fills_lawfully}
 use Rattle.semantics.proofs.KeptCalls.{unless_same, act_kind, act_grows, act_checked, fills_after}
 use Rattle.semantics.proofs.KeptRows.{blank_checked}
 use Rattle.semantics.proofs.LineTexts.{from_so}
@@ -134,5 +134,5 @@ module _ (C : Type 0) (reply : Reply C) (first : C)
   pub promise_holds : (kind : Kind) (calls : List CallDef) → Promise kind reply first calls
   promise_holds kind calls = record {
     runs = λ is. all_sound (blank_card kind) first calls (blank_sound kind is);
-    fills = λ text. (let f = fills_after kind reply first calls in fills_lawfully _ _ text f.tree f.known f.agree);
+    fills = λ text. (let f = fills_after kind reply first calls in text_fills_lawfully _ _ text f.tree f.known f.agree);
   }

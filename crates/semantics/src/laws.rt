@@ -4,14 +4,14 @@ ghost use Rattle.semantics.specs.FormLaws.{FormExact, FormFirst};
 
 // A method has one text, and a text says one method.
 pub fn text_laws() -> bool
-    ensures { (WrittenIsRead) × (ReadWasWritten) }
+    ensures { WrittenIsRead × ReadWasWritten }
 {
     true
 }
 
 // A method is well formed exactly when the form rules find no fault; the fault they tell is the first.
 pub fn form_laws() -> bool
-    ensures { (FormExact) × (FormFirst) }
+    ensures { FormExact × FormFirst }
 {
     true
 }

@@ -196,7 +196,7 @@ fn code_ends(code: &[Operation], labels: &[Label]) -> Result<(), Refusal>
 // The first fault of a method's form, if there is one.
 pub fn form(method: &Method) -> Result<(), Refusal>
     ensures value { result ≡ form_of (method_of method.now) }
-    // no fault is found exactly in well_formed methods, and the fault that is told is the first
+    // no fault is found exactly in well-formed methods, and the fault that is told is the first
     ensures exact { (result ≡ Ok tt → WellFormed (method_of method.now)) × (WellFormed (method_of method.now) → result ≡ Ok tt) }
     ensures first { IfErr result (FirstFault (method_of method.now)) }
 {

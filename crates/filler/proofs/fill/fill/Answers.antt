@@ -1,6 +1,6 @@
 use Rattle.std.proofs.Common.{map, rules}
 use Rattle.semantics.specs.Entries.{entry_of}
-use Rattle.semantics.proofs.FillCalls.{fills_lawfully}
+use Rattle.filler.proofs.Lawful.{fills_lawfully}
 use Rattle.filler.proofs.fill.fill.Goals as goal
 
 pub returns-in_err-method : goal.returns-in_err-method
@@ -8,7 +8,7 @@ returns-in_err-method g c = record {
   answer = search rules;
   after = search rules;
   bound = search rules;
-  laws = λ m said formed rules known agree. fills_lawfully (g.T.ClassTable.listed c.args.table.now) (map entry_of c.args.entries.now) c.args.text.now (g.met.T.ClassTable.tree c.args.table.now) known agree m said formed rules;
+  laws = fills_lawfully (g.T.ClassTable.listed c.args.table.now) (map entry_of c.args.entries.now) c.args.text.now (g.met.T.ClassTable.tree c.args.table.now);
 }
 
 pub returns-in_err-len : goal.returns-in_err-len
@@ -16,7 +16,7 @@ returns-in_err-len g c = record {
   answer = search rules;
   after = search rules;
   bound = search rules;
-  laws = λ m said formed rules known agree. fills_lawfully (g.T.ClassTable.listed c.args.table.now) (map entry_of c.args.entries.now) c.args.text.now (g.met.T.ClassTable.tree c.args.table.now) known agree m said formed rules;
+  laws = fills_lawfully (g.T.ClassTable.listed c.args.table.now) (map entry_of c.args.entries.now) c.args.text.now (g.met.T.ClassTable.tree c.args.table.now);
 }
 
 pub returns : goal.returns
@@ -24,5 +24,5 @@ returns g c = record {
   answer = search rules;
   after = search rules;
   bound = search rules;
-  laws = λ m said formed rules known agree. fills_lawfully (g.T.ClassTable.listed c.args.table.now) (map entry_of c.args.entries.now) c.args.text.now (g.met.T.ClassTable.tree c.args.table.now) known agree m said formed rules;
+  laws = fills_lawfully (g.T.ClassTable.listed c.args.table.now) (map entry_of c.args.entries.now) c.args.text.now (g.met.T.ClassTable.tree c.args.table.now);
 }

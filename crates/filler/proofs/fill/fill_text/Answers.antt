@@ -11,7 +11,7 @@ use Rattle.semantics.specs.FillCall.{FilledMethod, among_rows, filled_among}
 use Rattle.filler.specs.Fills.{filled_method}
 use Rattle.filler.proofs.fill.fill_text.Goals as goal
 
--- what is done with a well_formed method, and with any
+-- what is done with a well-formed method, and with any
 abbrev entered : List ℕ → List EntryDef → MethodDef → Result FilledMethod Refusal
 entered ps es m = so (entry_rules ps es (entry_in m) (entry_classes (entry_in m))) (λ _. so (among_rows es (entry_in m)) (λ known. filled_among ps known m))
 
