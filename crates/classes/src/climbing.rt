@@ -1,7 +1,7 @@
 // The table that climbs from parent to parent.
 ghost use Rattle.std.specs.Prelude.{◌≡◌, ◌<◌, ◌≤◌, length, take};
 ghost use Rattle.semantics.specs.Tree.{Shape, depth};
-ghost use Rattle.std.proofs.Common.{rules, arith};
+ghost use Rattle.semantics.proofs.TreeOrder.{tree_from};
 
 use crate::table::{BLANK_CLASSES, ClassTable, MAX_CLASSES, MAX_DEPTH, checked_parent};
 use semantics::refusal::{Capacity, Refusal};
@@ -34,7 +34,7 @@ impl Climbing {
 impl ClassTable for Climbing {
     ghost listed = { λ t. take t.count t.parents };
 
-    ghost tree = { first_of (Prim.search rules, Prim.grind (arith, Self.row.coded.inj)) };
+    ghost tree = { λ t. tree_from t.tree };
 
     fn blank() -> Climbing {
         Climbing {

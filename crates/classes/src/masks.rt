@@ -2,7 +2,7 @@
 ghost use Rattle.std.specs.Prelude.{◌≡◌, ℕ, ◌≤◌, length, take, slice_index};
 ghost use Rattle.semantics.specs.Tree.{Shape, fits};
 ghost use Rattle.classes.specs.Masked.{Steps, bit, digit, highest, parents_in};
-ghost use Rattle.std.proofs.Common.{rules, arith};
+ghost use Rattle.semantics.proofs.TreeOrder.{tree_from};
 
 use crate::table::{BLANK_CLASSES, ClassTable, MAX_CLASSES, MAX_DEPTH, checked_parent};
 use semantics::refusal::{Capacity, Refusal};
@@ -44,7 +44,7 @@ impl Masks {
 impl ClassTable for Masks {
     ghost listed = { λ t. parents_in t.masks t.count };
 
-    ghost tree = { first_of (Prim.search rules, Prim.grind (arith, Self.row.coded.inj)) };
+    ghost tree = { λ t. tree_from t.tree };
 
     fn blank() -> Masks {
         let mut masks = [0; MAX_CLASSES];
