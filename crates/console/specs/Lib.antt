@@ -1,2 +1,4 @@
 pub mod Answers
 pub mod Coming
+pub mod Hands
+pub mod Requests

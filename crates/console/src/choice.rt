@@ -1,4 +1,7 @@
 // Which host answers.
+ghost use Rattle.std.specs.Prelude.{◌≡◌};
+ghost use Rattle.console.specs.Requests.{standard};
+
 use crate::fault::Fault;
 use crate::words::{Word, Words, understood};
 use hosts::script::Cue;
@@ -62,7 +65,9 @@ impl Second {
 
 impl Choice {
     // The host until one is chosen.
-    pub fn standard() -> Choice {
+    pub fn standard() -> Choice
+        ensures { result ≡ standard }
+    {
         Choice::Switch {
             first: First::Numbers,
             second: Second::Cells,

@@ -1,4 +1,8 @@
 // The commands, one a line.
+ghost use Rattle.std.specs.Prelude.{◌≡◌, ℕ};
+ghost use Rattle.session.specs.CallMeaning.{call_of};
+ghost use Rattle.console.specs.Requests.{request_of};
+
 use crate::choice::Choice;
 use crate::fault::Fault;
 use crate::hex::bytes;
@@ -56,7 +60,10 @@ pub enum Command {
 }
 
 impl Request {
-    pub fn call(&self) -> Call<'_> {
+    // The call; it asks for no buffer.
+    pub fn call(&self) -> Call<'_>
+        ensures { (room : ℕ) → call_of room result ≡ request_of self.now }
+    {
         match self {
             Request::Class { parent } => Call::Class { parent: *parent },
             Request::Native {

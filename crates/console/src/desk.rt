@@ -1,7 +1,17 @@
 // The card in hand, and what is printed of its answers.
+ghost use Rattle.std.specs.Prelude.{◌≡◌, length};
+ghost use Rattle.semantics.specs.declared.call.Kind.TheVariants.{Issue};
+ghost use Rattle.semantics.specs.Calls.{act};
+ghost use Rattle.semantics.specs.Cards.{blank_card, fill_into, write_into};
+ghost use Rattle.session.specs.CallMeaning.{call_of};
+ghost use Rattle.console.specs.Hands.{hand_of, lent};
+
 use crate::answer::Answer;
 use crate::cards::Cards;
 use crate::command::Table;
+use classes::climbing::Climbing;
+use classes::masks::Masks;
+use classes::table::ClassTable;
 use hosts::host::Host;
 use semantics::call::{Kind, Response};
 use session::call::Call;
@@ -16,7 +26,10 @@ pub struct Desk {
 }
 
 impl Desk {
-    pub fn new() -> Desk {
+    // A blank issue card over the climbing table.
+    pub fn new() -> Desk
+        ensures { hand_of ⟦<Climbing as ClassTable>⟧.listed ⟦<Masks as ClassTable>⟧.listed result.cards ≡ blank_card Issue }
+    {
         Desk {
             cards: Cards::blank(Kind::Issue, Table::Climbing),
             buffer: [0; MAX_ROOM],
@@ -24,27 +37,43 @@ impl Desk {
     }
 
     // Puts a blank card in place of the one in hand.
-    pub fn renew(&mut self, kind: Kind, table: Table) {
+    pub fn renew(&mut self, kind: Kind, table: Table)
+        ensures hand { hand_of ⟦<Climbing as ClassTable>⟧.listed ⟦<Masks as ClassTable>⟧.listed self.new.cards ≡ blank_card kind }
+        ensures table { self.new.cards.table ≡ table }
+        ensures buffer { self.new.buffer ≡ self.old.buffer }
+    {
         self.cards = Cards::blank(kind, table);
     }
 
+    // Performs a call that is no fill, and prints its answer.
     pub fn call<H: Host>(
         &mut self,
         rt: &HostRuntime,
         host: &mut H,
         call: Call<'_>,
-    ) -> io::Result<()> {
+    ) -> io::Result<()>
+        ensures card { hand_of ⟦<Climbing as ClassTable>⟧.listed ⟦<Masks as ClassTable>⟧.listed self.new.cards ≡ (act H.reply (hand_of ⟦<Climbing as ClassTable>⟧.listed ⟦<Masks as ClassTable>⟧.listed self.old.cards) (H.condition host.old) (call_of 0 call.entry)).card }
+        ensures table { self.new.cards.table ≡ self.old.cards.table }
+        ensures host { H.condition host.new ≡ (act H.reply (hand_of ⟦<Climbing as ClassTable>⟧.listed ⟦<Masks as ClassTable>⟧.listed self.old.cards) (H.condition host.old) (call_of 0 call.entry)).host }
+        ensures buffer { self.new.buffer ≡ self.old.buffer }
+    {
         let answer = Answer(self.cards.perform(host, call, &mut []));
         println!(rt; "{answer}")
     }
 
+    // Performs a fill into a buffer of that length, and prints its answer and the text.
     pub fn fill<H: Host>(
         &mut self,
         rt: &HostRuntime,
         host: &mut H,
         room: u16,
         text: &[u8],
-    ) -> io::Result<()> {
+    ) -> io::Result<()>
+        ensures card { hand_of ⟦<Climbing as ClassTable>⟧.listed ⟦<Masks as ClassTable>⟧.listed self.new.cards ≡ hand_of ⟦<Climbing as ClassTable>⟧.listed ⟦<Masks as ClassTable>⟧.listed self.old.cards }
+        ensures table { self.new.cards.table ≡ self.old.cards.table }
+        ensures host { H.condition host.new ≡ H.condition host.old }
+        ensures buffer { self.new.buffer ≡ lent room (fill_into (hand_of ⟦<Climbing as ClassTable>⟧.listed ⟦<Masks as ClassTable>⟧.listed self.old.cards) text.now) self.old.buffer }
+    {
         let buffer = &mut self.buffer[0..room as usize];
         let response = self.cards.perform(host, Call::Fill { text }, buffer);
         let answer = Answer(response);
@@ -55,7 +84,11 @@ impl Desk {
         }
     }
 
-    pub fn write(&mut self, rt: &HostRuntime, row: u32, room: u16) -> io::Result<()> {
+    // Writes a row's text into a buffer of that length, and prints its answer and the text.
+    pub fn write(&mut self, rt: &HostRuntime, row: u32, room: u16) -> io::Result<()>
+        ensures card { self.new.cards ≡ self.old.cards }
+        ensures buffer { self.new.buffer ≡ lent room (write_into (hand_of ⟦<Climbing as ClassTable>⟧.listed ⟦<Masks as ClassTable>⟧.listed self.old.cards) row) self.old.buffer }
+    {
         match self.cards.write(row, &mut self.buffer[0..room as usize]) {
             Ok(length) => {
                 println!(rt; "length={length}")?;

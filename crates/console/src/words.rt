@@ -1,4 +1,7 @@
 // The words of a command, parted by single blanks, and what can stand for one.
+ghost use Rattle.std.specs.Prelude.{◌≡◌};
+ghost use Rattle.console.specs.Requests.{understood_of};
+
 use crate::fault::Fault;
 use semantics::call::Offered;
 use std::alloc::Global;
@@ -17,7 +20,9 @@ fn plain(word: &str) -> bool {
     }
 }
 
-pub fn understood<T, E: Drop>(read: Result<T, E>) -> Result<T, Fault> {
+pub fn understood<T, E: Drop>(read: Result<T, E>) -> Result<T, Fault>
+    ensures { result ≡ understood_of read }
+{
     match read {
         Ok(x) => Ok(x),
         Err(_) => Err(Fault::NotUnderstood),
