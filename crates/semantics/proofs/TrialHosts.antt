@@ -5,8 +5,6 @@ use Rattle.std.proofs.lemmas.List.{length_push}
 use Rattle.std.proofs.lemmas.Bool.{false≢true}
 use Rattle.semantics.specs.declared.refusal.Refusal.{Refusal}
 use Rattle.semantics.specs.declared.refusal.Refusal.TheVariants.{ArgumentOutOfRange}
-use Rattle.semantics.specs.declared.value.Answer.{Answer}
-use Rattle.semantics.specs.declared.value.Answer.TheVariants as answer
 use Rattle.semantics.specs.declared.value.Cause.{Cause}
 use Rattle.semantics.specs.declared.value.Cause.TheVariants.{WantedClass, ArgumentCount, Range}
 use Rattle.semantics.specs.declared.value.Value.{Value}
@@ -15,7 +13,7 @@ use Rattle.semantics.specs.Calls.{CallDef, class, load, start, go, fill, moments
 use Rattle.semantics.specs.Cards.{CardDef, blank_card, unless_refused, with_row, with_run, signature_in_range, native_row, loaded_method, started_frame, gone_by, class_answer}
 use Rattle.semantics.specs.Entries.{EntryDef, entry_in}
 use Rattle.semantics.specs.Form.{must}
-use Rattle.semantics.specs.Hosts.{QuestionDef, an_int, a_bool, shaped, argument_of, in_range, ranged, number_answer, number_reply}
+use Rattle.semantics.specs.Hosts.{QuestionDef, an_int, a_bool, shaped, argument_of, in_range, ranged, number_answer, number_reply, Answer}
 use Rattle.semantics.specs.Lists.{At, here, there}
 use Rattle.semantics.specs.Methods.{Each, MethodDef}
 use Rattle.semantics.specs.NewRows.{entry_classes, entry_rules, room_for}
@@ -43,19 +41,19 @@ record Numbers (s : Store) : Type 0 where
   natives : (r : ℕ) (e : EntryDef) → At s.entries r e → At s.bodies r store.native → OfTrial e
 
 -- a value that is answered past a test was answered
-given : (b : Bool) (a : Answer) (k : Cause) (v : Value) → cond b a (answer.None k) ≡ answer.Given v → a ≡ answer.Given v
+given : (b : Bool) (a : Answer) (k : Cause) (v : Value) → cond b a (Err k) ≡ Ok v → a ≡ Ok v
 given true a k v e = e
 given false a k v e = cc e
 
-given_shaped : (q : QuestionDef) (n c : ℕ) (a : Answer) (v : Value) → shaped q n c a ≡ answer.Given v → a ≡ answer.Given v
+given_shaped : (q : QuestionDef) (n c : ℕ) (a : Answer) (v : Value) → shaped q n c a ≡ Ok v → a ≡ Ok v
 given_shaped q n c a v e = given (eqb q.wanted 0 || eqb q.wanted c) a WantedClass v (given (eqb (length q.arguments) n) _ ArgumentCount v e)
 
 abbrev class_of : Answer → ℕ
-class_of (answer.Given v) = v.class
-class_of (answer.None k) = 0
+class_of (Ok v) = v.class
+class_of (Err k) = 0
 
 -- a value that is answered to a question of such a row has the wanted class
-wanted_class : (e : EntryDef) (x : Value) (vs : List Value) (v : Value) → OfTrial e → number_answer (question e x vs) ≡ answer.Given v → v.class ≡ e.result
+wanted_class : (e : EntryDef) (x : Value) (vs : List Value) (v : Value) → OfTrial e → number_answer (question e x vs) ≡ Ok v → v.class ≡ e.result
 wanted_class e x vs v (j, here) h = ap class_of (sym (given_shaped (question e x vs) 0 2 (an_int x.number) v h))
 wanted_class e x vs v (j, there here) h =
     let z = x.number -ℤ argument_of (question e x vs) in

@@ -1,10 +1,9 @@
 -- A go on a typed run: how it ends, which conditions it brings the host to, and whose fault a wrong answer is.
-use Rattle.std.proofs.Common.{◌≡◌, ℕ, zero, suc, ◌+◌, ◌<◌, ◌≤◌, List, sym, refl, ap, subst, arith}
+use Rattle.std.proofs.Common.{◌≡◌, ℕ, zero, suc, ◌+◌, ◌<◌, ◌≤◌, List, sym, refl, ap, subst, arith, Ok}
 use Rattle.semantics.specs.declared.ending.Break.TheVariants as break
 use Rattle.semantics.specs.declared.ending.End.{End}
 use Rattle.semantics.specs.declared.ending.Ending.{Ending}
 use Rattle.semantics.specs.declared.ending.Ending.TheVariants.{BrokenOff, StepsTaken}
-use Rattle.semantics.specs.declared.value.Answer.TheVariants.{Given}
 use Rattle.semantics.specs.declared.value.Value.{Value}
 use Rattle.semantics.specs.Endings.{end}
 use Rattle.semantics.specs.Hosts.{QuestionDef, Reply}
@@ -32,7 +31,7 @@ module _ {C : Type 0} (s : Store) (reply : Reply C) where
     value : Value
     reached : Reachable s reply c host
     asks : Asks s put
-    given : (reply host put).0 ≡ Given value
+    given : (reply host put).0 ≡ Ok value
     outside : Up s.classes value.class put.wanted → ⊥
 
   -- what a go of at most n steps on a run of the row r comes to

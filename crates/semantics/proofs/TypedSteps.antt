@@ -1,5 +1,5 @@
 -- One step of a typed run: it goes on typed, or it ends as it may.
-use Rattle.std.proofs.Common.{◌≡◌, ℕ, ◌+◌, true, ltb, List, [], ◌∷◌, map, length, get_or, drop, set, ℤ, pos, negsuc, Some, None, Ok, Option, sym, refl, ap, ◌∙◌, subst}
+use Rattle.std.proofs.Common.{◌≡◌, ℕ, ◌+◌, true, ltb, List, [], ◌∷◌, map, length, get_or, drop, set, ℤ, pos, negsuc, Some, None, Ok, Option, sym, refl, ap, ◌∙◌, subst, Err}
 use Rattle.std.specs.List.{slice_get}
 use Rattle.std.proofs.lemmas.List.{drop_more}
 use Rattle.std.proofs.lemmas.Bool.{cond_both, eqb-true, false≢true}
@@ -11,13 +11,11 @@ use Rattle.semantics.specs.declared.operation.Destination.{Destination}
 use Rattle.semantics.specs.declared.operation.Destination.TheVariants as destination
 use Rattle.semantics.specs.declared.operation.Operand.{Operand}
 use Rattle.semantics.specs.declared.operation.Operand.TheVariants as operand
-use Rattle.semantics.specs.declared.value.Answer.{Answer}
-use Rattle.semantics.specs.declared.value.Answer.TheVariants as answer
 use Rattle.semantics.specs.declared.value.Cause.{Cause}
 use Rattle.semantics.specs.declared.value.Value.{Value}
 use Rattle.semantics.specs.Check.{label_at_point, point_tests, check_from}
 use Rattle.semantics.specs.Entries.{EntryDef, Found, Nearest}
-use Rattle.semantics.specs.Hosts.{QuestionDef, Reply, is_zero}
+use Rattle.semantics.specs.Hosts.{QuestionDef, Reply, is_zero, Answer}
 use Rattle.semantics.specs.Lists.{here}
 use Rattle.semantics.specs.Methods.{Op, return, jump, jump_if, jump_list, invoke, MethodDef}
 use Rattle.semantics.specs.Promise.{started_row, Asks, asks}
@@ -48,7 +46,7 @@ pub data Stops {C : Type 0} (s : Store) (reply : Reply C) (c : C) (r : ℕ) : En
   returns : {v : Value} → Up s.classes v.class (entry_at s r).result → Stops s reply c r (Returned v)
   unanswered : {cause : Cause} → Stops s reply c r (NoAnswer cause)
   full : Stops s reply c r FramesFull
-  wrong : {q : QuestionDef} {v : Value} → Asks s q → (reply c q).0 ≡ answer.Given v → (Up s.classes v.class q.wanted → ⊥) → Stops s reply c r (BrokenOff break.AnswerClass)
+  wrong : {q : QuestionDef} {v : Value} → Asks s q → (reply c q).0 ≡ Ok v → (Up s.classes v.class q.wanted → ⊥) → Stops s reply c r (BrokenOff break.AnswerClass)
 
 abbrev pub Safe : {C : Type 0} → Store → Reply C → C → ℕ → Turn C → Type 0
 Safe s reply c r (onward f gs d) = Typed s (in_hand f gs) × (started_row f gs ≡ r) × Moves s reply c d
@@ -148,8 +146,8 @@ module _ {C : Type 0} (s : Store) (k : Checked s) (reply : Reply C) where
   answered_safe f gs c to q asked e w under = go (reply c q).0 refl
     where
       go : (x : Answer) → (reply c q).0 ≡ x → Safe s reply c (started_row f gs) (answered s f gs to q.wanted (x, (reply c q).1))
-      go (answer.None cause) x = (unanswered, asking asked)
-      go (answer.Given v) x = cond_both (fits s.classes (kind_of v) q.wanted) _ _ (Safe s reply c (started_row f gs))
+      go (Err cause) x = (unanswered, asking asked)
+      go (Ok v) x = cond_both (fits s.classes (kind_of v) q.wanted) _ _ (Safe s reply c (started_row f gs))
           (λ b. received_safe f gs c (reply c q).1 to q.wanted v e w under b (asking asked))
           (λ b. (wrong asked x (λ u. false≢true (sym b ∙ up_fits s.classes k.founded.tree u)), asking asked))
 

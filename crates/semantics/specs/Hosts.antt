@@ -1,7 +1,5 @@
 -- What a host means: a condition, its answer to each question, and the condition left behind; and the four hosts.
-use Rattle.std.specs.Prelude.{ℕ, ◌^◌, Bool, true, false, cond, ◌||◌, List, [], ◌∷◌, length, get_or, ℤ, pos, negsuc, ◌+ℤ◌, ◌-ℤ◌, ◌*ℤ◌, ◌==◌, int_div, int_le, nat_lt, slice_index_or, slice_set}
-use Rattle.semantics.specs.declared.value.Answer.{Answer}
-use Rattle.semantics.specs.declared.value.Answer.TheVariants.{Given, None}
+use Rattle.std.specs.Prelude.{ℕ, ◌^◌, Bool, true, false, cond, ◌||◌, List, [], ◌∷◌, length, get_or, ℤ, pos, negsuc, ◌+ℤ◌, ◌-ℤ◌, ◌*ℤ◌, ◌==◌, int_div, int_le, nat_lt, slice_index_or, slice_set, Ok, Err, Result}
 use Rattle.semantics.specs.declared.value.Cause.{Cause}
 use Rattle.semantics.specs.declared.value.Cause.TheVariants.{NameUnknown, ArgumentCount, WantedClass, CellNumber, Range, ScriptUsedUp, NameDiffers}
 use Rattle.semantics.specs.declared.value.Question.{Question}
@@ -29,6 +27,10 @@ pub record QuestionDef : Type 0 where
 abbrev pub question_of : Question → QuestionDef
 question_of q = record { name = q.name; class = q.class; wanted = q.wanted; receiver = q.receiver; arguments = items_of q.arguments }
 
+-- what a question is answered with
+abbrev pub Answer : Type 0
+Answer = Result Value Cause
+
 abbrev pub Reply : Type 0 → Type 0
 Reply C = C → QuestionDef → Answer × C
 
@@ -36,14 +38,14 @@ abbrev pub value : ℕ → ℤ → Value
 value c z = record { class = c; number = z }
 
 abbrev pub an_int : ℤ → Answer
-an_int z = Given (value int_class z)
+an_int z = Ok (value int_class z)
 
 abbrev pub a_bool : Bool → Answer
-a_bool b = Given (value bool_class (cond b (pos 1) (pos 0)))
+a_bool b = Ok (value bool_class (cond b (pos 1) (pos 0)))
 
 -- an answer of class c to a question that has n arguments, and wants that class or class 0
 abbrev pub shaped : QuestionDef → ℕ → ℕ → Answer → Answer
-shaped q n c a = cond (length q.arguments == n) (cond (q.wanted == 0 || q.wanted == c) a (None WantedClass)) (None ArgumentCount)
+shaped q n c a = cond (length q.arguments == n) (cond (q.wanted == 0 || q.wanted == c) a (Err WantedClass)) (Err ArgumentCount)
 
 -- the number of the only argument
 abbrev pub zero_value : Value
@@ -68,11 +70,11 @@ eq_z (negsuc a) (pos b) = false
 eq_z (negsuc a) (negsuc b) = a == b
 
 abbrev pub ranged : ℤ → Answer
-ranged z = cond (in_range z) (an_int z) (None Range)
+ranged z = cond (in_range z) (an_int z) (Err Range)
 
 -- division toward zero
 abbrev pub divided : ℤ → ℤ → Answer
-divided x y = cond (is_zero y) (None Range) (ranged (int_div x y))
+divided x y = cond (is_zero y) (Err Range) (ranged (int_div x y))
 
 -- the number host: likeIt, add, subtract, multiply, divide, LtOrEq and equal
 abbrev pub number_answer : QuestionDef → Answer
@@ -84,7 +86,7 @@ number_answer q =
     (cond (q.name == 4) (shaped q 1 int_class (divided q.receiver.number (argument_of q)))
     (cond (q.name == 5) (shaped q 1 bool_class (a_bool (int_le q.receiver.number (argument_of q))))
     (cond (q.name == 6) (shaped q 1 bool_class (a_bool (eq_z q.receiver.number (argument_of q))))
-    (None NameUnknown)))))))
+    (Err NameUnknown)))))))
 
 abbrev pub number_reply : Reply (Unit {0})
 number_reply c q = (number_answer q, c)
@@ -99,16 +101,16 @@ cell_place (pos n) = n
 cell_place (negsuc n) = 64
 
 abbrev pub cell_held : List ℤ → QuestionDef → Answer
-cell_held cs q = cond (is_cell q.receiver.number) (an_int (slice_index_or cs (cell_place q.receiver.number) (pos 0))) (None CellNumber)
+cell_held cs q = cond (is_cell q.receiver.number) (an_int (slice_index_or cs (cell_place q.receiver.number) (pos 0))) (Err CellNumber)
 
 abbrev pub cell_answer : List ℤ → QuestionDef → Answer
 cell_answer cs q =
     cond (q.name == 128) (shaped q 0 int_class (cell_held cs q))
-    (cond (q.name == 129) (shaped q 1 int_class (cell_held cs q)) (None NameUnknown))
+    (cond (q.name == 129) (shaped q 1 int_class (cell_held cs q)) (Err NameUnknown))
 
 abbrev pub is_given : Answer → Bool
-is_given (Given v) = true
-is_given (None k) = false
+is_given (Ok v) = true
+is_given (Err k) = false
 
 abbrev pub cells_after : List ℤ → QuestionDef → List ℤ
 cells_after cs q = cond (q.name == 129) (cond (is_given (cell_answer cs q)) (slice_set cs (cell_place q.receiver.number) (argument_of q)) cs) cs
@@ -122,8 +124,8 @@ pub record Line : Type 0 where
   pub value : Value
 
 abbrev pub script_reply : Reply (List Line)
-script_reply [] q = (None ScriptUsedUp, [])
-script_reply (l ∷ ls) q = cond (l.name == q.name) (Given l.value, ls) (None NameDiffers, l ∷ ls)
+script_reply [] q = (Err ScriptUsedUp, [])
+script_reply (l ∷ ls) q = cond (l.name == q.name) (Ok l.value, ls) (Err NameDiffers, l ∷ ls)
 
 -- the switch: names below 128 go to the first of two hosts, the rest to the second
 abbrev pub switch_reply : {A B : Type 0} → Reply A → Reply B → Reply (A × B)

@@ -1,5 +1,5 @@
 -- What is promised of every list of calls on a card that began blank, over every host.
-use Rattle.std.specs.Prelude.{◌≡◌, ℕ, ◌<◌, ◌≤◌, List, [], ◌∷◌, ◌++◌, ◌≢◌}
+use Rattle.std.specs.Prelude.{◌≡◌, ℕ, ◌<◌, ◌≤◌, List, [], ◌∷◌, ◌++◌, ◌≢◌, Ok}
 use Rattle.semantics.specs.declared.call.Kind.{Kind}
 use Rattle.semantics.specs.declared.call.Kind.TheVariants.{Issue}
 use Rattle.semantics.specs.declared.call.Response.{Response}
@@ -8,7 +8,6 @@ use Rattle.semantics.specs.declared.ending.Break.TheVariants as break
 use Rattle.semantics.specs.declared.ending.End.{End}
 use Rattle.semantics.specs.declared.ending.Ending.TheVariants.{Returned, NoAnswer, FramesFull, BrokenOff, StepsTaken}
 use Rattle.semantics.specs.declared.refusal.Refusal.TheVariants.{ArgumentOutOfRange, NoRunInHand}
-use Rattle.semantics.specs.declared.value.Answer.TheVariants.{Given}
 use Rattle.semantics.specs.declared.value.Cause.{Cause}
 use Rattle.semantics.specs.declared.value.Value.{Value}
 use Rattle.semantics.specs.Calls.{CallDef, go, Moment, moments, state, after_all}
@@ -56,7 +55,7 @@ pub data Reachable {C : Type 0} (s : Store) (reply : Reply C) (first : C) : C �
 -- a host is true to the card if each value that it answers to such questions, in each such condition, fits the wanted class
 abbrev pub TrueTo : {C : Type 0} → Store → Reply C → C → Type 0
 TrueTo {C} s reply first =
-    (c : C) (q : QuestionDef) (v : Value) → Reachable s reply first c → Asks s q → (reply c q).0 ≡ Given v → Up s.classes v.class q.wanted
+    (c : C) (q : QuestionDef) (v : Value) → Reachable s reply first c → Asks s q → (reply c q).0 ≡ Ok v → Up s.classes v.class q.wanted
 
 abbrev pub TrueAtEach : {C : Type 0} → Reply C → C → List (Moment C) → Type 0
 TrueAtEach {C} reply first ms = (i : ℕ) (m : Moment C) → At ms i m → TrueTo m.card.store reply first

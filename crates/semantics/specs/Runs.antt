@@ -10,13 +10,11 @@ use Rattle.semantics.specs.declared.operation.Destination.{Destination}
 use Rattle.semantics.specs.declared.operation.Destination.TheVariants as destination
 use Rattle.semantics.specs.declared.operation.Operand.{Operand}
 use Rattle.semantics.specs.declared.operation.Operand.TheVariants as operand
-use Rattle.semantics.specs.declared.value.Answer.{Answer}
-use Rattle.semantics.specs.declared.value.Answer.TheVariants as answer
 use Rattle.semantics.specs.declared.value.Value.{Value}
 use Rattle.semantics.specs.Check.{label_at_point, falling_in, at_row}
 use Rattle.semantics.specs.Endings.{end}
 use Rattle.semantics.specs.Entries.{EntryDef, Found}
-use Rattle.semantics.specs.Hosts.{QuestionDef, Reply, value, zero_value, is_zero}
+use Rattle.semantics.specs.Hosts.{QuestionDef, Reply, value, zero_value, is_zero, Answer}
 use Rattle.semantics.specs.Methods.{Op, return, jump, jump_if, jump_list, invoke, LabelDef}
 use Rattle.semantics.specs.Rows.{row_fits}
 use Rattle.semantics.specs.Stores.{CodeDef, BodyDef, native, coded, Store, entry_at, body_at, code_at, op_at}
@@ -117,8 +115,8 @@ closed s f (g ∷ gs) c v = received s g gs c (destination_of (op_at (code_at s 
 
 -- what the host answers: none, a value outside the wanted class, or one for d
 abbrev pub answered : {C : Type 0} → Store → FrameDef → List FrameDef → Destination → ℕ → Answer × C → Turn C
-answered s f gs d wanted (answer.None cause, c) = ended (NoAnswer cause) f.row f.point c
-answered s f gs d wanted (answer.Given v, c) =
+answered s f gs d wanted (Err cause, c) = ended (NoAnswer cause) f.row f.point c
+answered s f gs d wanted (Ok v, c) =
     cond (fits s.classes (kind_of v) wanted) (received s f gs c d v) (ended (BrokenOff break.AnswerClass) f.row f.point c)
 
 abbrev pub question : EntryDef → Value → List Value → QuestionDef

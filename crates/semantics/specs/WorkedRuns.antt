@@ -8,13 +8,11 @@ use Rattle.semantics.specs.declared.ending.End.{End}
 use Rattle.semantics.specs.declared.ending.Ending.TheVariants.{Returned}
 use Rattle.semantics.specs.declared.operation.Operand.TheVariants as operand
 use Rattle.semantics.specs.declared.refusal.Refusal.TheVariants.{ResultClass, RowMisfit}
-use Rattle.semantics.specs.declared.value.Answer.{Answer}
-use Rattle.semantics.specs.declared.value.Answer.TheVariants as answer
 use Rattle.semantics.specs.declared.value.Cause.TheVariants.{Range}
 use Rattle.semantics.specs.Calls.{CallDef, class, native, load, start, go, Moment, moments}
 use Rattle.semantics.specs.Cards.{blank_card}
 use Rattle.semantics.specs.Endings.{end}
-use Rattle.semantics.specs.Hosts.{number_reply, value, cause_number}
+use Rattle.semantics.specs.Hosts.{number_reply, value, cause_number, Answer}
 use Rattle.semantics.specs.Methods.{return, jump_list, MethodDef}
 use Rattle.semantics.specs.Printing.{method_text}
 use Rattle.semantics.specs.Runs.{FrameDef, Turn, onward, opened, moved_to, step_of, go_from}
@@ -95,8 +93,8 @@ pub record WorkedCases : Type 0 where
   pub no_label : GoesTo (negsuc 0) 1
   pub past_labels : GoesTo (pos 1) 1
   -- -7 by 2 is -3; -2^31 by -1 is out of range, cause 5
-  pub toward_zero : quotient (negsuc 6) (pos 2) ≡ answer.Given (value 2 (negsuc 2))
-  pub out_of_range : quotient (negsuc 2147483647) (negsuc 0) ≡ answer.None Range
+  pub toward_zero : quotient (negsuc 6) (pos 2) ≡ Ok (value 2 (negsuc 2))
+  pub out_of_range : quotient (negsuc 2147483647) (negsuc 0) ≡ Err Range
   pub range_number : cause_number Range ≡ 5
   -- a whole list of calls on a blank issue card
   pub whole_list : responses (moments number_reply (blank_card Issue) tt (trial_calls ++ countdown_calls))

@@ -12,6 +12,7 @@ pub struct ArrayVec<T, const N: usize> {
     ghost long: { length items ≡ N },
 }
 
+// By hand: `Clone` cannot be derived for a generic struct with a ghost field.
 impl<T: Copy, const N: usize> Clone for ArrayVec<T, N> {
     ghost is_clone = { λ x y. y ≡ x };
 

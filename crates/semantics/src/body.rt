@@ -13,6 +13,7 @@ pub struct Code {
     ghost few: { temporaries ≤ 8 },
 }
 
+// An enum of its own, since the `None` of an `Option` would not say that a row is native.
 #[derive(Clone, Copy)]
 pub enum Body {
     Native,

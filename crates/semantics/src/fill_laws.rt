@@ -2,8 +2,6 @@
 ghost use Rattle.semantics.specs.FillLaws.{FillingHolds};
 
 // Filling gives the least table that passes or refuses with cause, and ends.
-pub fn filling_holds() -> bool
+pub fn filling_holds()
     ensures { FillingHolds }
-{
-    true
-}
+{}

@@ -32,14 +32,6 @@ impl Cause {
     pub fn number(&self) -> u8
         ensures { result ≡ cause_number self.now }
     {
-        match *self {
-            Cause::NameUnknown => 1,
-            Cause::ArgumentCount => 2,
-            Cause::WantedClass => 3,
-            Cause::CellNumber => 4,
-            Cause::Range => 5,
-            Cause::ScriptUsedUp => 6,
-            Cause::NameDiffers => 7,
-        }
+        *self as u8
     }
 }

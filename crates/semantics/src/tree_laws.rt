@@ -1,45 +1,31 @@
 // The laws of the class tree, each the contract of a function.
 ghost use Rattle.semantics.specs.TreeLaws.{FittingIsAnOrder, JoinIsDeepest, AbsentFitsNothing, OldClassesStay, AddingKeepsTrees, AddingRefuses, WorkedClasses, WorkedTree};
 
-pub fn fitting_is_an_order() -> u8
+pub fn fitting_is_an_order()
     ensures { FittingIsAnOrder }
-{
-    0
-}
+{}
 
-pub fn join_is_deepest() -> u8
+pub fn join_is_deepest()
     ensures { JoinIsDeepest }
-{
-    0
-}
+{}
 
-pub fn absent_fits_nothing() -> u8
+pub fn absent_fits_nothing()
     ensures { AbsentFitsNothing }
-{
-    0
-}
+{}
 
-pub fn old_classes_stay() -> u8
+pub fn old_classes_stay()
     ensures { OldClassesStay }
-{
-    0
-}
+{}
 
-pub fn adding_keeps_trees() -> u8
+pub fn adding_keeps_trees()
     ensures { AddingKeepsTrees }
-{
-    0
-}
+{}
 
-pub fn adding_refuses() -> u8
+pub fn adding_refuses()
     ensures { AddingRefuses }
-{
-    0
-}
+{}
 
-pub fn worked_classes() -> u8
+pub fn worked_classes()
     ensures blank { WorkedClasses }
     ensures grown { WorkedTree }
-{
-    0
-}
+{}

@@ -25,18 +25,15 @@ pub struct Question {
 // Why a host has no answer.
 #[derive(Clone, Copy, PartialEq, Debug)]
 pub enum Cause {
-    NameUnknown,
-    ArgumentCount,
-    WantedClass,
-    CellNumber,
+    NameUnknown = 1,
+    ArgumentCount = 2,
+    WantedClass = 3,
+    CellNumber = 4,
     // A result out of range, or a divisor of 0.
-    Range,
-    ScriptUsedUp,
-    NameDiffers,
+    Range = 5,
+    ScriptUsedUp = 6,
+    NameDiffers = 7,
 }
 
-#[derive(Clone, Copy, PartialEq, Debug)]
-pub enum Answer {
-    Given(Value),
-    None(Cause),
-}
+// A host's answer: a value, or why there is none.
+pub type Answer = Result<Value, Cause>;

@@ -1,6 +1,6 @@
 // What is done with a bounded list.
-ghost use Rattle.std.specs.Prelude.{◌≡◌, min, [], length, replicate, nat_lt, slice_index_or, slice_set};
-ghost use Rattle.semantics.specs.Items.{items_of, pushed};
+ghost use Rattle.std.specs.Prelude.{◌≡◌, min, [], length, replicate, slice_index_or, slice_set};
+ghost use Rattle.semantics.specs.Items.{items_of, pushed, room};
 
 use crate::array_vec::ArrayVec;
 
@@ -16,6 +16,7 @@ impl<T: Copy, const N: usize> ArrayVec<T, N> {
     }
 
     // The item n times, at most N.
+    #[tactic(auto, using(crate::proofs::Items::used_part))]
     pub fn repeat(item: T, n: usize) -> Self
         ensures { items_of result ≡ replicate (min n N) item }
     {
@@ -38,32 +39,29 @@ impl<T: Copy, const N: usize> ArrayVec<T, N> {
         self.as_slice().len()
     }
 
-    // One item more; false, and nothing changed, where the list is full.
-    pub fn push(&mut self, item: T) -> bool
-        ensures value { result ≡ nat_lt (length (items_of self.old)) N }
+    // One item more; where the list is full nothing changes, and the item is handed back.
+    pub fn push(&mut self, item: T) -> Result<(), T>
+        ensures value { result ≡ room N (items_of self.old) item }
         ensures after { items_of self.new ≡ pushed N (items_of self.old) item }
     {
         let at = self.count;
         if at >= N {
-            return false;
+            return Err(item);
         }
         self.items[at] = item;
         self.count = at + 1;
-        true
+        Ok(())
     }
 
     // The item of that number, or another where there is none.
-    #[tactic(auto, using(crate::proofs::Items::get_in, crate::proofs::Items::get_none))]
     pub fn get_or(&self, at: usize, other: T) -> T
         ensures { result ≡ slice_index_or (items_of self.now) at other }
     {
-        if at >= self.count {
-            return other;
-        }
-        self.items[at]
+        self.as_slice().get(at).copied().unwrap_or(other)
     }
 
     // Another item in the place of that number, if there is one.
+    #[tactic(auto, using(crate::proofs::Items::used_part))]
     pub fn set(&mut self, at: usize, value: T)
         ensures { items_of self.new ≡ slice_set (items_of self.old) at value }
     {
