@@ -1,5 +1,5 @@
 -- A tree of classes as masks: bit b of the mask of class a says whether a fits b.
-use Rattle.std.specs.Prelude.{◌≡◌, ℕ, suc, ◌+◌, ◌-◌, ◌/◌, ◌%◌, ◌^◌, ◌<◌, Bool, true, false, List, [], ◌∷◌, length, take, slice_index}
+use Rattle.std.specs.Prelude.{◌≡◌, ℕ, suc, ◌+◌, ◌-◌, ◌/◌, ◌%◌, ◌^◌, ◌<◌, Bool, true, false, List, [], ◌∷◌, length, slice_index}
 use Rattle.std.specs.Int.Count.{count_leading_zeros}
 
 -- the binary digit of m at the place b
@@ -19,9 +19,9 @@ abbrev pub reads : ℕ → List ℕ → List ℕ
 reads k [] = []
 reads k (m ∷ ms) = highest (m - 2 ^ k) ∷ reads (suc k) ms
 
--- the parents that the first n masks tell
-abbrev pub parents_in : List ℕ → ℕ → List ℕ
-parents_in masks n = reads 0 (take n masks)
+-- the parents that masks tell
+abbrev pub parents_in : List ℕ → List ℕ
+parents_in masks = reads 0 masks
 
 -- a mask is the class's own bit and its parent's mask
 abbrev pub Steps : List ℕ → Type 0

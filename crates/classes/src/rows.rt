@@ -44,8 +44,8 @@ pub fn row_fits<T: ClassTable, C: Cell, D: Cell>(table: &T, row: &[C], other: &[
     if row.len() != other.len() {
         return false;
     }
-    for i in 0..row.len() {
-        if !cell_fits(table, &row[i], &other[i]) {
+    for (cell, other) in row.iter().zip(other) {
+        if !cell_fits(table, cell, other) {
             return false;
         }
     }

@@ -1,5 +1,5 @@
 -- What a script means: the lines that are left to be played.
-use Rattle.std.specs.Prelude.{List, map, drop}
+use Rattle.std.specs.Prelude.{List, map}
 use Rattle.hosts.specs.declared.script.Cue.{Cue}
 use Rattle.hosts.specs.declared.script.Script.{Script}
 use Rattle.semantics.specs.Hosts.{Line}
@@ -11,4 +11,4 @@ abbrev pub lines_of : List Cue → List Line
 lines_of cs = map line_of cs
 
 abbrev pub lines_left : Script → List Line
-lines_left s = lines_of (drop s.next s.cues.now)
+lines_left s = lines_of s.left.now

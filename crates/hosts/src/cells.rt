@@ -1,9 +1,10 @@
 // The cell host: 64 Ints that are kept.
-ghost use Rattle.std.specs.Prelude.{◌≡◌, List, replicate, ℤ, pos};
-ghost use Rattle.semantics.specs.Hosts.{cell_reply};
+ghost use Rattle.std.specs.Prelude.{◌≡◌, cond, List, replicate, ℤ, pos, Ok, Err};
+ghost use Rattle.semantics.specs.declared.value.Cause.TheVariants.{CellNumber};
+ghost use Rattle.semantics.specs.Hosts.{is_cell, cell_place, cell_reply};
 
 use crate::host::Host;
-use crate::numbers::{an_int, argument};
+use crate::numbers::{an_int, argument, shape};
 use semantics::value::{Answer, Cause, INT, Question};
 
 pub const CELLS: usize = 64;
@@ -11,6 +12,16 @@ pub const CELLS: usize = 64;
 #[derive(Clone, Copy)]
 pub struct Cells {
     cells: [i32; CELLS],
+}
+
+// The place of the cell of that number.
+fn cell_of(number: i32) -> Result<usize, Cause>
+    ensures { result ≡ cond (is_cell number) (Ok (cell_place number)) (Err CellNumber) }
+{
+    match usize::try_from(number) {
+        Ok(place) if place < CELLS => Ok(place),
+        _ => Err(Cause::CellNumber),
+    }
 }
 
 impl Cells {
@@ -30,24 +41,15 @@ impl Host for Cells {
     ghost reply = { cell_reply };
 
     fn ask(&mut self, question: &Question) -> Answer {
-        let put = match question.name {
-            128 => false,
-            129 => true,
-            _ => return Answer::None(Cause::NameUnknown),
+        let count = match question.name {
+            128 => 0,
+            129 => 1,
+            _ => return Err(Cause::NameUnknown),
         };
-        if question.arguments.len() != put as usize {
-            return Answer::None(Cause::ArgumentCount);
-        }
-        if question.wanted != 0 && question.wanted != INT {
-            return Answer::None(Cause::WantedClass);
-        }
-        let number = question.receiver.number;
-        if number < 0 || number >= CELLS as i32 {
-            return Answer::None(Cause::CellNumber);
-        }
-        let cell = number as usize;
+        shape(question, count, INT)?;
+        let cell = cell_of(question.receiver.number)?;
         let former = self.cells[cell];
-        if put {
+        if count == 1 {
             self.cells[cell] = argument(question);
         }
         an_int(former)

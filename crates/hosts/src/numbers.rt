@@ -1,7 +1,7 @@
 // The number host: arithmetic on Ints. It has one condition only.
-ghost use Rattle.std.specs.Prelude.{◌≡◌, ◌+ℤ◌, ◌-ℤ◌, ◌*ℤ◌};
-ghost use Rattle.std.specs.Int.Signed.{le_z};
-ghost use Rattle.semantics.specs.Hosts.{question_of, an_int, a_bool, shaped, argument_of, ranged, divided, eq_z, number_answer, number_reply};
+ghost use Rattle.std.specs.Prelude.{◌≡◌, MatchOption, Err, ◌+ℤ◌, ◌-ℤ◌, ◌*ℤ◌};
+ghost use Rattle.semantics.specs.declared.value.Cause.TheVariants.{Range};
+ghost use Rattle.semantics.specs.Hosts.{question_of, an_int, a_bool, shape, shaped, argument_of, ranged, divided, eq_z, number_answer, number_reply};
 
 use crate::host::Host;
 use semantics::value::{Answer, Cause, Question, Value};
@@ -13,54 +13,48 @@ pub struct Numbers;
 pub(crate) fn an_int(number: i32) -> Answer
     ensures { result ≡ an_int number }
 {
-    Answer::Given(Value { class: INT, number })
+    Ok(Value { class: INT, number })
 }
 
 fn a_bool(truth: bool) -> Answer
     ensures { result ≡ a_bool truth }
 {
-    let number = if truth { 1 } else { 0 };
-    Answer::Given(Value {
+    Ok(Value {
         class: BOOL,
-        number,
+        number: i32::from(truth),
     })
+}
+
+// The Int of a number, unless it is out of range.
+fn ranged(number: Option<i32>) -> Answer
+    ensures { MatchOption number (result ≡ Err Range) (λ n. result ≡ an_int n) }
+{
+    an_int(number.ok_or(Cause::Range)?)
 }
 
 fn sum(x: i32, y: i32) -> Answer
     ensures { result ≡ ranged (x +ℤ y) }
 {
-    match x.checked_add(y) {
-        Some(n) => an_int(n),
-        None => Answer::None(Cause::Range),
-    }
+    ranged(x.checked_add(y))
 }
 
 fn difference(x: i32, y: i32) -> Answer
     ensures { result ≡ ranged (x -ℤ y) }
 {
-    match x.checked_sub(y) {
-        Some(n) => an_int(n),
-        None => Answer::None(Cause::Range),
-    }
+    ranged(x.checked_sub(y))
 }
 
 fn product(x: i32, y: i32) -> Answer
     ensures { result ≡ ranged (x *ℤ y) }
 {
-    match x.checked_mul(y) {
-        Some(n) => an_int(n),
-        None => Answer::None(Cause::Range),
-    }
+    ranged(x.checked_mul(y))
 }
 
 // Toward zero.
 fn quotient(x: i32, y: i32) -> Answer
     ensures { result ≡ divided x y }
 {
-    match x.checked_div(y) {
-        Some(n) => an_int(n),
-        None => Answer::None(Cause::Range),
-    }
+    ranged(x.checked_div(y))
 }
 
 fn equal(x: i32, y: i32) -> Answer
@@ -69,17 +63,24 @@ fn equal(x: i32, y: i32) -> Answer
     a_bool(x == y)
 }
 
-// The answer, which is of that class, unless the count of arguments or the wanted class is at fault.
-pub(crate) fn shape(question: &Question, count: usize, class: u8, answer: Answer) -> Answer
-    ensures { result ≡ shaped (question_of question.now) count class answer }
+// That the question has as many arguments, and wants that class or class 0.
+pub(crate) fn shape(question: &Question, count: usize, class: u8) -> Result<(), Cause>
+    ensures { result ≡ shape (question_of question.now) count class }
 {
     if question.arguments.len() != count {
-        return Answer::None(Cause::ArgumentCount);
+        return Err(Cause::ArgumentCount);
     }
     if question.wanted != 0 && question.wanted != class {
-        return Answer::None(Cause::WantedClass);
+        return Err(Cause::WantedClass);
     }
-    answer
+    Ok(())
+}
+
+// The answer, which is of that class, unless the count of arguments or the wanted class is at fault.
+fn shaped(question: &Question, count: usize, class: u8, answer: Answer) -> Answer
+    ensures { result ≡ shaped (question_of question.now) count class answer }
+{
+    shape(question, count, class).and(answer)
 }
 
 // The number of the only argument.
@@ -99,14 +100,14 @@ fn answer(question: &Question) -> Answer
     let x = question.receiver.number;
     let y = argument(question);
     match question.name {
-        0 => shape(question, 0, INT, an_int(x)),
-        1 => shape(question, 1, INT, sum(x, y)),
-        2 => shape(question, 1, INT, difference(x, y)),
-        3 => shape(question, 1, INT, product(x, y)),
-        4 => shape(question, 1, INT, quotient(x, y)),
-        5 => shape(question, 1, BOOL, a_bool(x <= y)),
-        6 => shape(question, 1, BOOL, equal(x, y)),
-        _ => Answer::None(Cause::NameUnknown),
+        0 => shaped(question, 0, INT, an_int(x)),
+        1 => shaped(question, 1, INT, sum(x, y)),
+        2 => shaped(question, 1, INT, difference(x, y)),
+        3 => shaped(question, 1, INT, product(x, y)),
+        4 => shaped(question, 1, INT, quotient(x, y)),
+        5 => shaped(question, 1, BOOL, a_bool(x <= y)),
+        6 => shaped(question, 1, BOOL, equal(x, y)),
+        _ => Err(Cause::NameUnknown),
     }
 }
 

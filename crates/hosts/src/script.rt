@@ -1,6 +1,4 @@
 // The script host: a list of names and values, answered one after the other.
-ghost use Rattle.std.specs.Prelude.{◌≤◌, length};
-
 use semantics::value::Value;
 
 pub mod played;
@@ -11,9 +9,8 @@ pub struct Cue {
     pub value: Value,
 }
 
+// The cues that are still to be played.
 #[derive(Clone, Copy)]
 pub struct Script<'a> {
-    cues: &'a [Cue],
-    next: usize,
-    ghost within: { next ≤ length cues.now },
+    left: &'a [Cue],
 }

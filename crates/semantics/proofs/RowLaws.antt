@@ -1,6 +1,5 @@
 -- Rows of cells: rows of different length, a loop over both rows, and what fitting says.
-use Rattle.std.proofs.Common.{◌≡◌, ℕ, suc, ◌+◌, ◌<◌, ◌≤◌, Bool, true, false, ◌&&◌, List, [], ◌∷◌, length, get_or, drop, Decides, sym, refl, ap, ◌∙◌, ap₂}
-use Rattle.std.proofs.lemmas.List.{drop_more, drop_all}
+use Rattle.std.proofs.Common.{◌≡◌, ℕ, suc, Bool, true, false, ◌&&◌, ◌⊎◌, List, [], ◌∷◌, length, Decides, sym, refl, ap, ◌∙◌, ap₂, inl, inr, arith}
 use Rattle.std.proofs.lemmas.Bool.{and_right, false≢true}
 use Rattle.std.proofs.lemmas.Bool.Decides.{Decides-and, Decides-at, Decides-like}
 use Rattle.semantics.specs.Tree.{Up, Tree}
@@ -14,26 +13,23 @@ module _ {X Y : Type 0} (ps : List ℕ) (f : X → ℕ) (g : Y → ℕ) where
   row_differs (x ∷ xs) [] n = refl
   row_differs (x ∷ xs) (y ∷ ys) n = and_right _ _ (row_differs xs ys (λ e. n (ap suc e)))
 
-  -- a loop over both rows, come to the place i: what is left of them gives the answer; x and y stand there
-  module _ (xs : List X) (ys : List Y) (i : ℕ) (x : X) (y : Y) (h : i < length xs) (k : i < length ys)
-      (at_x : x ≡ get_or xs i x) (at_y : y ≡ get_or ys i y) where
-    turn : (r : Bool) → r ≡ cell_fits ps f g x y
-        → row_fits ps f g (drop i xs) (drop i ys) ≡ (r && row_fits ps f g (drop (i + 1) xs) (drop (i + 1) ys))
-    turn r e =
-        ap₂ (row_fits ps f g) (drop_more xs i x h) (drop_more ys i y k)
-        ∙ ap (λ (s : Bool). s && row_fits ps f g (drop (i + 1) xs) (drop (i + 1) ys))
-        (sym (e ∙ ap₂ (λ (u : X) (v : Y). cell_fits ps f g u v) at_x at_y))
+  -- a walk over both rows: what is left of them gives the answer
+  module _ {x : X} {y : Y} {xs us : List X} {ys vs : List Y} (first : us ≡ x ∷ xs) (second : vs ≡ y ∷ ys) where
+    turn : (r : Bool) → r ≡ cell_fits ps f g x y → row_fits ps f g us vs ≡ (r && row_fits ps f g xs ys)
+    turn r e = ap₂ (row_fits ps f g) first second ∙ ap (λ (s : Bool). s && row_fits ps f g xs ys) (sym e)
 
-    pub row_stop : false ≡ cell_fits ps f g x y → row_fits ps f g (drop i xs) (drop i ys) ≡ row_fits ps f g xs ys → false ≡ row_fits ps f g xs ys
-    row_stop e inv = sym (turn false e) ∙ inv
+    pub row_stop : (a : Bool) → false ≡ cell_fits ps f g x y → row_fits ps f g us vs ≡ a → false ≡ a
+    row_stop a e inv = sym (turn false e) ∙ inv
 
-    pub row_next : true ≡ cell_fits ps f g x y → row_fits ps f g (drop i xs) (drop i ys) ≡ row_fits ps f g xs ys
-        → row_fits ps f g (drop (i + 1) xs) (drop (i + 1) ys) ≡ row_fits ps f g xs ys
-    row_next e inv = sym (turn true e) ∙ inv
+    pub row_next : (a : Bool) → true ≡ cell_fits ps f g x y → row_fits ps f g us vs ≡ a → row_fits ps f g xs ys ≡ a
+    row_next a e inv = sym (turn true e) ∙ inv
 
-  pub row_end : (xs : List X) (ys : List Y) (i : ℕ) → length xs ≤ i → length ys ≤ i
-      → row_fits ps f g (drop i xs) (drop i ys) ≡ row_fits ps f g xs ys → true ≡ row_fits ps f g xs ys
-  row_end xs ys i h k inv = sym (ap₂ (row_fits ps f g) (drop_all i xs h) (drop_all i ys k)) ∙ inv
+  pub row_end : (us : List X) (vs : List Y) (a : Bool) → length us ≡ length vs → (length us ≡ 0) ⊎ (length vs ≡ 0) → row_fits ps f g us vs ≡ a → true ≡ a
+  row_end [] [] a l e inv = inv
+  row_end [] (y ∷ ys) a l e inv = absurd (omega arith)
+  row_end (x ∷ xs) [] a l e inv = absurd (omega arith)
+  row_end (x ∷ xs) (y ∷ ys) a l (inl n) inv = absurd (omega arith)
+  row_end (x ∷ xs) (y ∷ ys) a l (inr n) inv = absurd (omega arith)
 
   pub row_decides : Tree ps → (xs : List X) (ys : List Y) → Decides (row_fits ps f g xs ys) (FitsEach ps f g xs ys)
   row_decides t [] [] = (λ e. none, λ e. refl)

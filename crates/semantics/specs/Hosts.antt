@@ -43,6 +43,10 @@ an_int z = Ok (value int_class z)
 abbrev pub a_bool : Bool → Answer
 a_bool b = Ok (value bool_class (cond b (pos 1) (pos 0)))
 
+-- that a question has n arguments, and wants class c or class 0
+abbrev pub shape : QuestionDef → ℕ → ℕ → Result (Unit {0}) Cause
+shape q n c = cond (length q.arguments == n) (cond (q.wanted == 0 || q.wanted == c) (Ok tt) (Err WantedClass)) (Err ArgumentCount)
+
 -- an answer of class c to a question that has n arguments, and wants that class or class 0
 abbrev pub shaped : QuestionDef → ℕ → ℕ → Answer → Answer
 shaped q n c a = cond (length q.arguments == n) (cond (q.wanted == 0 || q.wanted == c) a (Err WantedClass)) (Err ArgumentCount)

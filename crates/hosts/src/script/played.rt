@@ -11,7 +11,7 @@ impl<'a> Script<'a> {
     pub fn new(cues: &'a [Cue]) -> Script<'a>
         ensures { lines_left result ≡ lines_of cues.now }
     {
-        Script { cues, next: 0 }
+        Script { left: cues }
     }
 }
 
@@ -23,15 +23,11 @@ impl<'a> Host for Script<'a> {
     ghost reply = { script_reply };
 
     fn ask(&mut self, question: &Question) -> Answer {
-        let at = self.next;
-        if at >= self.cues.len() {
-            return Answer::None(Cause::ScriptUsedUp);
-        }
-        let cue = self.cues[at];
+        let (cue, rest) = self.left.split_first().ok_or(Cause::ScriptUsedUp)?;
         if cue.name != question.name {
-            return Answer::None(Cause::NameDiffers);
+            return Err(Cause::NameDiffers);
         }
-        self.next = at + 1;
-        Answer::Given(cue.value)
+        self.left = rest;
+        Ok(cue.value)
     }
 }
