@@ -7,7 +7,7 @@ use Rattle.writer.proofs.Filling.{back, put_whole}
 use Rattle.writer.proofs.write.Goals as goal
 
 pub fill-needed-requires : goal.fill-needed-requires
-fill-needed-requires c = method_short (c.args.method.now)
+fill-needed-requires c = method_short c.args.method.now
 
 pub returns-clause-text : goal.returns-clause-text
 returns-clause-text c =
