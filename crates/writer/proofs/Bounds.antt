@@ -1,6 +1,5 @@
--- Every text of a method is short: far below what a place can count.
-use Rattle.std.proofs.Common.{◌≡◌, ℕ, zero, suc, ◌+◌, ◌*◌, ◌/◌, ◌%◌, ◌≤◌, Bool, true, false, cond, eqb, List, [], ◌∷◌, ◌++◌, length, ℤ, pos, negsuc, codes, decimal, refl, ap, mul-suc, arith}
-use Rattle.std.specs.List.{flat_map}
+-- Every text of a method is short: far below what the output counts to.
+use Rattle.std.proofs.Common.{◌≡◌, ℕ, zero, suc, ◌+◌, ◌*◌, ◌/◌, ◌%◌, ◌^◌, ◌<◌, ◌≤◌, Bool, true, false, cond, eqb, List, [], ◌∷◌, ◌++◌, map, length, ℤ, pos, negsuc, codes, decimal, mul-suc, arith}
 use Rattle.std.specs.Fmt.{digits, digits_onto, digit_glyph, signed_decimal}
 use Rattle.std.proofs.lemmas.List.{length-append, length-take-le}
 use Rattle.semantics.specs.declared.array_vec.ArrayVec.{ArrayVec}
@@ -14,9 +13,8 @@ use Rattle.semantics.specs.declared.method.Label.{Label}
 use Rattle.semantics.specs.declared.method.Method.{Method}
 use Rattle.semantics.specs.Items.{items_of}
 use Rattle.semantics.specs.Methods.{method_of, label_of, op_of}
-use Rattle.semantics.specs.Printing.{operand_text, destination_text, classes_text, op_text, label_text, method_text}
-use Rattle.writer.specs.Putting.{Room, marked, next, line, label_line, code_line, head_text}
-use Rattle.writer.proofs.Texts.{classes_some, length_jump_list, length_invoke, length_head, method_text_lem}
+use Rattle.semantics.specs.Pieces.{joined_by}
+use Rattle.semantics.specs.Printing.{operand_text, destination_text, classes_text, op_text, label_text, line_text, code_text, labels_text, method_text}
 
 -- a numeral has at most 64 digits, whatever the number
 spelled_short : (k base : ℕ) (upper : Bool) (n : ℕ) (acc : List ℕ) → length (digits_onto k base upper n acc) ≤ k + length acc
@@ -45,62 +43,74 @@ destination_short : (d : Destination) → length (destination_text d) ≤ 65
 destination_short (destination.Local n) = omega (arith, decimal_short n)
 destination_short (destination.Temporary n) = omega (arith, decimal_short n)
 
--- lists: each item at most k bytes
-joined_short : {X : Type 0} (f : X → List ℕ) (k : ℕ) → ((x : X) → length (f x) ≤ k) → (xs : List X) → length (flat_map f xs) ≤ k * length xs
-joined_short f k h [] = omega arith
-joined_short f k h (x ∷ xs) = omega (arith, length-append (f x) (flat_map f xs), h x, joined_short f k h xs, mul-suc k (length xs))
+-- items of at most k bytes, each but the first behind a separator
+parted_short : {X : Type 0} (sep : ℕ) (f : X → List ℕ) (k : ℕ) → ((x : X) → length (f x) ≤ k) → (xs : List X) (w : List ℕ) → length (joined_by sep (w ∷ map f xs)) ≤ length w + suc k * length xs
+parted_short sep f k h [] w = omega arith
+parted_short sep f k h (x ∷ xs) w = omega (arith, length-append w (sep ∷ joined_by sep (f x ∷ map f xs)), h x, parted_short sep f k h xs (f x), mul-suc (suc k) (length xs))
 
 items_few : {T : Type 0} {N : ℕ} (v : ArrayVec T N) → length (items_of v) ≤ N
 items_few v = omega (arith, length-take-le v.count v.items (omega (arith, v.few, v.long)), v.few)
 
 classes_short : (ns : List ℕ) → length (classes_text ns) ≤ 65 * length ns
 classes_short [] = omega arith
-classes_short (n ∷ ns) =
-    let e = ap length (classes_some (n ∷ ns) ns n refl) in
-    omega (arith, e, length-append (decimal n) (flat_map (marked 44) ns), decimal_short n, joined_short (marked 44) 65 (λ m. omega (arith, decimal_short m)) ns)
-
-length_line : (w v : List ℕ) → length (line w v) ≡ length w + (length v + 1)
-length_line w v = simp length-append
+classes_short (n ∷ ns) = omega (arith, parted_short 44 decimal 64 decimal_short ns (decimal n), decimal_short n)
 
 op_short : (o : Operation) → length (op_text (op_of o)) ≤ 700
 op_short (Return a) = omega (arith, operand_short a)
 op_short (Jump n) = omega (arith, decimal_short n)
-op_short (JumpIf a n) = omega (arith, operand_short a, decimal_short n, length-append (operand_text a) (marked 32 n))
-op_short (JumpList a ns) =
-    let s = joined_short (marked 32) 65 (λ n. omega (arith, decimal_short n)) (items_of ns) in
-    omega (arith, length_jump_list a (items_of ns), operand_short a, s, items_few ns)
+op_short (JumpIf a n) = omega (arith, operand_short a, decimal_short n, length-append (operand_text a) (32 ∷ decimal n))
+op_short (JumpList a ns) = omega (arith, operand_short a, parted_short 32 decimal 64 decimal_short (items_of ns) (operand_text a), items_few ns)
 op_short (Invoke d a m bs) =
-    let s = joined_short next 67 (λ b. omega (arith, operand_short b)) (items_of bs) in
-    omega (arith, length_invoke d a m (items_of bs), destination_short d, operand_short a, decimal_short m, s, items_few bs)
-
-code_line_short : (o : Operation) → length (code_line o) ≤ 704
-code_line_short o = omega (arith, length_line (codes "op=") (op_text (op_of o)), op_short o)
-
-label_line_short : (l : Label) → length (label_line l) ≤ 600
-label_line_short l =
-    omega (arith, length_line (codes "label=") (label_text (label_of l)), length-append (decimal l.point) (58 ∷ classes_text (items_of l.row)), decimal_short l.point, classes_short (items_of l.row), items_few l.row)
-
-head_short : (m : Method) → length (head_text m) ≤ 800
-head_short m =
+    let name = joined_by 32 (decimal m ∷ map operand_text (items_of bs)) in
     omega (
       arith,
-      length_head m,
-      length_line (codes "class=") (decimal m.class),
-      length_line (codes "name=") (decimal m.name),
-      length_line (codes "args=") (classes_text (items_of m.arguments)),
-      length_line (codes "result=") (decimal m.result),
-      length_line (codes "temps=") (decimal m.temporaries),
-      decimal_short m.class,
-      decimal_short m.name,
-      decimal_short m.result,
-      decimal_short m.temporaries,
-      classes_short (items_of m.arguments),
-      items_few m.arguments,
+      length-append (destination_text d) (32 ∷ (operand_text a ++ (32 ∷ name))),
+      length-append (operand_text a) (32 ∷ name),
+      destination_short d,
+      operand_short a,
+      decimal_short m,
+      parted_short 32 operand_text 66 operand_short (items_of bs) (decimal m),
+      items_few bs,
     )
 
--- the whole text, from the first place on
-pub method_room : (m : Method) → Room 0 (method_text (method_of m))
-method_room m =
-    let ls = flat_map label_line (items_of m.labels) in
-    let os = flat_map code_line (items_of m.code) in
-    record { fits = omega (arith, ap length (method_text_lem m), length-append (head_text m) (ls ++ os), length-append ls os, head_short m, joined_short label_line 600 label_line_short (items_of m.labels), items_few m.labels, joined_short code_line 704 code_line_short (items_of m.code), items_few m.code) }
+length_line : (w v rest : List ℕ) → length (line_text w v rest) ≡ length w + (length v + suc (length rest))
+length_line w v rest = simp length-append
+
+code_short : (os : List Operation) → length (code_text (map op_of os)) ≤ 704 * length os
+code_short [] = omega arith
+code_short (o ∷ os) = omega (arith, length_line (codes "op=") (op_text (op_of o)) (code_text (map op_of os)), op_short o, code_short os, mul-suc 704 (length os))
+
+label_short : (l : Label) → length (label_text (label_of l)) ≤ 593
+label_short l = omega (arith, length-append (decimal l.point) (58 ∷ classes_text (items_of l.row)), decimal_short l.point, classes_short (items_of l.row), items_few l.row)
+
+labels_short : (ls : List Label) (rest : List ℕ) → length (labels_text (map label_of ls) rest) ≤ 600 * length ls + length rest
+labels_short [] rest = omega arith
+labels_short (l ∷ ls) rest = omega (arith, length_line (codes "label=") (label_text (label_of l)) (labels_text (map label_of ls) rest), label_short l, labels_short ls rest, mul-suc 600 (length ls))
+
+-- the whole text
+pub method_short : (m : Method) → length (method_text (method_of m)) < 2 ^ 64
+method_short m =
+    let code = code_text (map op_of (items_of m.code)) in
+    let labels = labels_text (map label_of (items_of m.labels)) code in
+    let temporaries = line_text (codes "temps=") (decimal m.temporaries) labels in
+    let result = line_text (codes "result=") (decimal m.result) temporaries in
+    let arguments = line_text (codes "args=") (classes_text (items_of m.arguments)) result in
+    let name = line_text (codes "name=") (decimal m.name) arguments in
+    omega (
+      arith,
+      length_line (codes "class=") (decimal m.class) name,
+      length_line (codes "name=") (decimal m.name) arguments,
+      length_line (codes "args=") (classes_text (items_of m.arguments)) result,
+      length_line (codes "result=") (decimal m.result) temporaries,
+      length_line (codes "temps=") (decimal m.temporaries) labels,
+      decimal_short m.class,
+      decimal_short m.name,
+      classes_short (items_of m.arguments),
+      items_few m.arguments,
+      decimal_short m.result,
+      decimal_short m.temporaries,
+      labels_short (items_of m.labels) code,
+      items_few m.labels,
+      code_short (items_of m.code),
+      items_few m.code,
+    )

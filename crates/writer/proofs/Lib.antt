@@ -2,4 +2,3 @@ pub mod Putting
 pub mod Texts
 pub mod Bounds
 pub mod Filling
-pub mod Back

@@ -1,71 +1,57 @@
--- The parts of a method's text as they are put: item by item, each behind its separator or as a line.
-use Rattle.std.proofs.Common.{◌≡◌, ℕ, ◌+◌, List, [], ◌∷◌, ◌++◌, map, length, codes, decimal, sym, refl, ap, ◌∙◌, arith}
+-- The texts of the definition, put part by part.
+use Rattle.std.proofs.Common.{◌≡◌, ℕ, List, [], ◌∷◌, ◌++◌, map, codes, decimal, refl, sym, ap, ◌∙◌}
 use Rattle.std.specs.List.{flat_map}
-use Rattle.std.proofs.lemmas.List.{append_assoc, append-nil, length-append}
+use Rattle.std.proofs.lemmas.List.{append-nil}
 use Rattle.semantics.specs.Pieces.{joined_by}
-use Rattle.semantics.specs.declared.operation.Operand.{Operand}
 use Rattle.semantics.specs.declared.operation.Operation.{Operation}
-use Rattle.semantics.specs.declared.operation.Destination.{Destination}
 use Rattle.semantics.specs.declared.method.Label.{Label}
 use Rattle.semantics.specs.declared.method.Method.{Method}
 use Rattle.semantics.specs.Items.{items_of}
-use Rattle.semantics.specs.Methods.{op_of, label_of, method_of, jump_list, invoke}
-use Rattle.semantics.specs.Printing.{operand_text, destination_text, classes_text, op_text, label_text, line_text, code_text, labels_text, method_text}
-use Rattle.writer.specs.Putting.{marked, next, line, label_line, code_line, class_line, name_line, arguments_line, result_line, temporaries_line, head_text}
+use Rattle.semantics.specs.Methods.{label_of, method_of, op_of}
+use Rattle.semantics.specs.Printing.{classes_text, code_text, label_text, labels_text, line_text, method_text, op_text}
+use Rattle.writer.specs.declared.output.Output.{Output}
+use Rattle.writer.specs.Putting.{enclosed, put}
+use Rattle.writer.proofs.Putting.{put_append}
 
 -- the first item, and then each other behind the separator
-pub joined_by_behind : {X : Type 0} (sep : ℕ) (f : X → List ℕ) (w : List ℕ) (xs : List X) → joined_by sep (w ∷ map f xs) ≡ w ++ flat_map (λ x. sep ∷ f x) xs
-joined_by_behind sep f w [] = sym (append-nil w)
-joined_by_behind sep f w (x ∷ xs) = ap (λ l. w ++ (sep ∷ l)) (joined_by_behind sep f (f x) xs)
+pub joined_by_each : {X : Type 0} (sep : ℕ) (f : X → List ℕ) (w : List ℕ) (xs : List X) → joined_by sep (w ∷ map f xs) ≡ w ++ flat_map (λ x. enclosed (sep ∷ []) (f x) []) xs
+unfolding enclosed
+joined_by_each sep f w [] = sym (append-nil w)
+joined_by_each sep f w (x ∷ xs) = ap (λ l. w ++ (sep ∷ l)) (joined_by_each sep f (f x) xs ∙ ap (λ l. l ++ flat_map (λ y. enclosed (sep ∷ []) (f y) []) xs) (sym (append-nil (f x))))
 
-pub classes_some : (ns ms : List ℕ) (n : ℕ) → ns ≡ n ∷ ms → classes_text ns ≡ decimal n ++ flat_map (marked 44) ms
-classes_some ns ms n e = ap classes_text e ∙ joined_by_behind 44 decimal (decimal n) ms
+-- a line by itself
+abbrev pub line : List ℕ → List ℕ → List ℕ
+line word value = enclosed word value (10 ∷ [])
 
-pub jump_list_text : (a : Operand) (ns : List ℕ) → op_text (jump_list a ns) ≡ 76 ∷ (next a ++ flat_map (marked 32) ns)
-jump_list_text a ns = ap (λ l. 76 ∷ 32 ∷ l) (joined_by_behind 32 decimal (operand_text a) ns)
+abbrev pub label_lines : List Label → List ℕ
+label_lines = flat_map (λ l. line (codes "label=") (label_text (label_of l)))
 
-pub invoke_text : (d : Destination) (a : Operand) (m : ℕ) (bs : List Operand) → op_text (invoke d a m bs) ≡ 86 ∷ 32 ∷ (destination_text d ++ (next a ++ (marked 32 m ++ flat_map next bs)))
-invoke_text d a m bs = ap (λ l. 86 ∷ 32 ∷ (destination_text d ++ (32 ∷ (operand_text a ++ (32 ∷ l))))) (joined_by_behind 32 operand_text (decimal m) bs)
+abbrev pub code_lines : List Operation → List ℕ
+code_lines = flat_map (λ o. line (codes "op=") (op_text (op_of o)))
 
-pub length_jump_list : (a : Operand) (ns : List ℕ) → length (op_text (jump_list a ns)) ≡ 1 + (length (next a) + length (flat_map (marked 32) ns))
-length_jump_list a ns = omega (arith, ap length (jump_list_text a ns), length-append (next a) (flat_map (marked 32) ns))
+-- each line, and then what stands behind it
+put_line : (w v rest : List ℕ) (o : Output) → put (line_text w v rest) o ≡ put rest (put (line w v) o)
+unfolding enclosed
+put_line w v rest o = simp put_append
 
-pub length_invoke : (d : Destination) (a : Operand) (m : ℕ) (bs : List Operand) → length (op_text (invoke d a m bs)) ≡ 2 + (length (destination_text d) + (length (next a) + (length (marked 32 m) + length (flat_map next bs))))
-length_invoke d a m bs =
-    let name = marked 32 m ++ flat_map next bs in
-    omega (arith, ap length (invoke_text d a m bs), length-append (destination_text d) (next a ++ name), length-append (next a) name, length-append (marked 32 m) (flat_map next bs))
+put_labels : (ls : List Label) (rest : List ℕ) (o : Output) → put (labels_text (map label_of ls) rest) o ≡ put rest (put (label_lines ls) o)
+put_labels [] rest o = refl
+put_labels (l ∷ ls) rest o =
+    let first = line (codes "label=") (label_text (label_of l)) in
+    put_line (codes "label=") (label_text (label_of l)) (labels_text (map label_of ls) rest) o ∙ put_labels ls rest (put first o) ∙ ap (put rest) (sym (put_append first (label_lines ls) o))
 
--- a line, and what stands behind it
-line_then : (w v rest rest' : List ℕ) → rest ≡ rest' → line_text w v rest ≡ line w v ++ rest'
-line_then w v rest rest' e = ap (line_text w v) e ∙ ap (λ l. w ++ l) (sym (append_assoc v (10 ∷ []) rest')) ∙ sym (append_assoc w (v ++ 10 ∷ []) rest')
+put_code : (os : List Operation) (o : Output) → put (code_text (map op_of os)) o ≡ put (code_lines os) o
+put_code [] o = refl
+put_code (p ∷ os) o =
+    let first = line (codes "op=") (op_text (op_of p)) in
+    put_line (codes "op=") (op_text (op_of p)) (code_text (map op_of os)) o ∙ put_code os (put first o) ∙ sym (put_append first (code_lines os) o)
 
-code_lines : (os : List Operation) → code_text (map op_of os) ≡ flat_map code_line os
-code_lines [] = refl
-code_lines (o ∷ os) = line_then (codes "op=") (op_text (op_of o)) (code_text (map op_of os)) (flat_map code_line os) (code_lines os)
-
-label_lines : (ls : List Label) (rest rest' : List ℕ) → rest ≡ rest' → labels_text (map label_of ls) rest ≡ flat_map label_line ls ++ rest'
-label_lines [] rest rest' e = e
-label_lines (l ∷ ls) rest rest' e =
-    line_then (codes "label=") (label_text (label_of l)) (labels_text (map label_of ls) rest) (flat_map label_line ls ++ rest') (label_lines ls rest rest' e)
-    ∙ sym (append_assoc (label_line l) (flat_map label_line ls) rest')
-
--- five parts one after the other, and what stands behind them
-behind_five : (a b c d e t : List ℕ) → a ++ (b ++ (c ++ (d ++ (e ++ t)))) ≡ (a ++ (b ++ (c ++ (d ++ e)))) ++ t
-behind_five a b c d e t = simp append_assoc
-
-length_five : (a b c d e : List ℕ) → length (a ++ (b ++ (c ++ (d ++ e)))) ≡ length a + (length b + (length c + (length d + length e)))
-length_five a b c d e = simp length-append
-
-pub length_head : (m : Method) → length (head_text m) ≡ length (class_line m) + (length (name_line m) + (length (arguments_line m) + (length (result_line m) + length (temporaries_line m))))
-length_head m = length_five (class_line m) (name_line m) (arguments_line m) (result_line m) (temporaries_line m)
-
--- the whole text: the head, the labels and the code
-pub method_text_lem : (m : Method) → method_text (method_of m) ≡ head_text m ++ (flat_map label_line (items_of m.labels) ++ flat_map code_line (items_of m.code))
-method_text_lem m =
-    line_then (codes "class=") (decimal m.class) _ _
-    (line_then (codes "name=") (decimal m.name) _ _
-    (line_then (codes "args=") (classes_text (items_of m.arguments)) _ _
-    (line_then (codes "result=") (decimal m.result) _ _
-    (line_then (codes "temps=") (decimal m.temporaries) _ _
-    (label_lines (items_of m.labels) _ _ (code_lines (items_of m.code)))))))
-    ∙ behind_five (class_line m) (name_line m) (arguments_line m) (result_line m) (temporaries_line m) _
+pub put_lines : (m : Method) (o : Output) → put (method_text (method_of m)) o ≡ put (code_lines (items_of m.code)) (put (label_lines (items_of m.labels)) (put (line (codes "temps=") (decimal m.temporaries)) (put (line (codes "result=") (decimal m.result)) (put (line (codes "args=") (classes_text (items_of m.arguments))) (put (line (codes "name=") (decimal m.name)) (put (line (codes "class=") (decimal m.class)) o))))))
+put_lines m o =
+    put_line (codes "class=") (decimal m.class) _ _
+    ∙ put_line (codes "name=") (decimal m.name) _ _
+    ∙ put_line (codes "args=") (classes_text (items_of m.arguments)) _ _
+    ∙ put_line (codes "result=") (decimal m.result) _ _
+    ∙ put_line (codes "temps=") (decimal m.temporaries) _ _
+    ∙ put_labels (items_of m.labels) _ _
+    ∙ put_code (items_of m.code) _

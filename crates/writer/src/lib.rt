@@ -7,13 +7,13 @@ ghost use Rattle.semantics.specs.Methods.{InRange, method_of};
 ghost use Rattle.semantics.specs.Printing.{method_text};
 ghost use Rattle.semantics.specs.Reading.{method_in};
 
-use crate::lines::put_method;
+use crate::output::Text;
 use semantics::method::Method;
 use semantics::refusal::Refusal;
 
 mod lines;
-mod numbers;
 mod operations;
+mod output;
 
 // Writes the text of a method into the buffer and answers its length; where the buffer is too short it stays as it was.
 pub fn write(method: &Method, buffer: &mut [u8]) -> Result<usize, Refusal>
@@ -24,10 +24,9 @@ pub fn write(method: &Method, buffer: &mut [u8]) -> Result<usize, Refusal>
     ensures back { IfOk result (λ n. InRange (method_of method.now) → method_in (take n buffer.new) ≡ Ok (method_of method.now)) }
 {
     // over no bytes at all it only counts
-    let mut nothing = [0u8; 0];
-    let needed = put_method(&mut nothing, 0, method);
+    let needed = method.fill(&mut []);
     if buffer.len() < needed {
         return Err(Refusal::BufferTooShort { needed });
     }
-    Ok(put_method(buffer, 0, method))
+    Ok(method.fill(buffer))
 }
