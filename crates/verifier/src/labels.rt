@@ -2,7 +2,7 @@
 ghost use Rattle.std.specs.Prelude.{◌≡◌, ◌+◌, ◌^◌, ◌<◌, map, length};
 ghost use Rattle.semantics.specs.Items.{items_of};
 ghost use Rattle.semantics.specs.Methods.{label_of, op_of};
-ghost use Rattle.semantics.specs.Tests.{label_row, named_labels, first_label, labels_fit, cells_fit};
+ghost use Rattle.semantics.specs.Tests.{label_row, named_labels, first_label, cells_fit};
 
 use crate::tests::demand;
 use classes::rows::{Cell, row_fits};
@@ -16,12 +16,8 @@ use semantics::operation::Operation;
 fn label_row(labels: &[Label], label: u8) -> ArrayVec<u8, 8>
     ensures { items_of result ≡ label_row (map label_of labels.now) label }
 {
-    let at = label as usize;
-    if at < labels.len() {
-        labels[at].row
-    } else {
-        ArrayVec::new(0)
-    }
+    let label = labels.get(label as usize);
+    label.map_or_else(|| ArrayVec::new(0), |label| label.row)
 }
 
 pub fn named_labels(operation: &Operation) -> ArrayVec<u8, 8>
@@ -64,33 +60,6 @@ fn cells_fit<T: ClassTable, C: Cell>(
         )?;
     }
     Ok(())
-}
-
-// The row against the rows of the named labels, of which the first is the operand `first`.
-fn rows_fit<T: ClassTable>(
-    table: &T,
-    labels: &[Label],
-    row: &[u8],
-    first: usize,
-    named: &[u8],
-) -> Result<(), Misfit>
-    requires { first + length named.now < 2 ^ 64 }
-    ensures { result ≡ labels_fit (T.listed table.now) (map label_of labels.now) row.now first named.now }
-{
-    cells_fit(table, labels, row, first, named)
-}
-
-// The row against the rows of the labels that the operation names.
-pub fn labels_fit<T: ClassTable>(
-    table: &T,
-    labels: &[Label],
-    row: &[u8],
-    operation: &Operation,
-) -> Result<(), Misfit>
-    ensures { result ≡ labels_fit (T.listed table.now) (map label_of labels.now) row.now (first_label (op_of operation.now)) (named_labels (op_of operation.now)) }
-{
-    let named = named_labels(operation);
-    rows_fit(table, labels, row, first_label(operation), named.as_slice())
 }
 
 // A row of cells against the rows of the labels that the operation names.
