@@ -10,18 +10,18 @@ use Rattle.semantics.specs.Check.{label_at_point}
 use Rattle.semantics.specs.Items.{items_of}
 use Rattle.semantics.specs.Methods.{LabelDef, label_of}
 use Rattle.semantics.specs.Tests.{then, demand, label_row, classes_fit, cells_fit, labels_fit}
-use Rattle.verifier.specs.Answers.{row_of as row_in}
+use Rattle.verifier.specs.Answers.{row_of}
 use Rattle.verifier.specs.Points.{labelled_row}
 
-abbrev pub Row8 : Type 0
+abbrev Row8 : Type 0
 Row8 = ArrayVec ℕ 8
 
-pub row_of : (xs : List Label) (n : ℕ) (d : Label) → n < length xs → items_of (get_or xs n d).row ≡ label_row (map label_of xs) n
-row_of [] n d h = absurd (omega arith)
-row_of (x ∷ xs) zero d h = refl
-row_of (x ∷ xs) (suc n) d h = row_of xs n d (omega arith)
+row_within : (xs : List Label) (n : ℕ) (d : Label) → n < length xs → items_of (get_or xs n d).row ≡ label_row (map label_of xs) n
+row_within [] n d h = absurd (omega arith)
+row_within (x ∷ xs) zero d h = refl
+row_within (x ∷ xs) (suc n) d h = row_within xs n d (omega arith)
 
-pub row_past : (xs : List Label) (n : ℕ) → length xs ≤ n → [] ≡ label_row (map label_of xs) n
+row_past : (xs : List Label) (n : ℕ) → length xs ≤ n → [] ≡ label_row (map label_of xs) n
 row_past [] n h = refl
 row_past (x ∷ xs) zero h = absurd (omega arith)
 row_past (x ∷ xs) (suc n) h = row_past xs n (omega arith)
@@ -29,7 +29,7 @@ row_past (x ∷ xs) (suc n) h = row_past xs n (omega arith)
 -- the row of the item that `get` lends
 pub row_got : (xs : List Label) (n : ℕ) (o : Option (Bor Label)) (r : Row8) (P : Type 0) (Q : Bor Label → Type 0) → (P → items_of r ≡ []) → ((y : Bor Label) → Q y → r ≡ y.now.row) → IsItemAt xs n o → MatchOption o P Q → items_of r ≡ label_row (map label_of xs) n
 row_got xs n None r P Q f g at p = f p ∙ row_past xs n at.3
-row_got xs n (Some y) r P Q f g at q = ap items_of (g y q) ∙ ap (λ z. items_of z.row) at.1 ∙ row_of xs n y.now at.3.0
+row_got xs n (Some y) r P Q f g at q = ap items_of (g y q) ∙ ap (λ z. items_of z.row) at.1 ∙ row_within xs n y.now at.3.0
 
 -- cells that are classes
 pub classes_are_cells : (ps : List ℕ) (ls : List LabelDef) (ts : List ℕ) (k : ℕ) (ns : List ℕ) → cells_fit ps (λ c. c) ls ts k ns ≡ labels_fit ps ls ts k ns
@@ -45,9 +45,9 @@ pub labelled_at : (p : ℕ) (xs : List Label) → option_map (λ (y : Label). it
 labelled_at p [] = refl
 labelled_at p (x ∷ xs) = labelled_either (eqb x.point p) x (find (λ y. eqb y.point p) xs) (label_at_point (map label_of xs) p) (labelled_at p xs)
 
-rows_same : (o : Option (Bor Label)) → row_in (option_map (λ y. y.now.row) o) ≡ option_map (λ (l : Label). items_of l.row) (option_map (λ y. y.now) o)
+rows_same : (o : Option (Bor Label)) → row_of (option_map (λ y. y.now.row) o) ≡ option_map (λ (l : Label). items_of l.row) (option_map (λ y. y.now) o)
 rows_same None = refl
 rows_same (Some y) = refl
 
-pub labelled_by : (p : ℕ) (xs : List Label) (o : Option (Bor Label)) (r : Option Row8) → option_map (λ y. y.now) o ≡ find (λ x. eqb x.point p) xs → r ≡ option_map (λ y. y.now.row) o → row_in r ≡ labelled_row (label_at_point (map label_of xs) p)
-labelled_by p xs o r e f = ap row_in f ∙ rows_same o ∙ ap (option_map (λ (l : Label). items_of l.row)) e ∙ labelled_at p xs
+pub labelled_by : (p : ℕ) (xs : List Label) (o : Option (Bor Label)) (r : Option Row8) → option_map (λ y. y.now) o ≡ find (λ x. eqb x.point p) xs → r ≡ option_map (λ y. y.now.row) o → row_of r ≡ labelled_row (label_at_point (map label_of xs) p)
+labelled_by p xs o r e f = ap row_of f ∙ rows_same o ∙ ap (option_map (λ (l : Label). items_of l.row)) e ∙ labelled_at p xs

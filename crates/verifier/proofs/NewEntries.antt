@@ -33,9 +33,9 @@ signature_by ps e n t u v a b l c =
     ∙ ap (λ r. so (must (present ps e.class) (ClassAbsent 0)) (λ _. r)) (present_append ps 1 e.arguments (e.result ∷ []))
 
 -- the signature, the labels' rows, the other rows
-pub rules_by : (ps : List ℕ) (es : List EntryDef) (e : EntryDef) (ds : List ℕ) (n : ℕ) (t u v : Formed) → t ≡ classes_present ps 0 (entry_classes e) → n ≡ length e.arguments → u ≡ classes_present ps (2 + n) ds → v ≡ so (must (not (taken e es)) NameTaken) (λ _. agrees ps e 0 es) → so t (λ _. so u (λ _. v)) ≡ entry_rules ps es e (entry_classes e ++ ds)
-rules_by ps es e ds n t u v a l b c =
-    let k : 2 + n ≡ 0 + length (entry_classes e) = omega (arith, length_push e.arguments e.result) in
+pub rules_by : (ps : List ℕ) (es : List EntryDef) (e : EntryDef) (ds : List ℕ) (t u v : Formed) → t ≡ classes_present ps 0 (entry_classes e) → u ≡ classes_present ps (2 + length e.arguments) ds → v ≡ so (must (not (taken e es)) NameTaken) (λ _. agrees ps e 0 es) → so t (λ _. so u (λ _. v)) ≡ entry_rules ps es e (entry_classes e ++ ds)
+rules_by ps es e ds t u v a b c =
+    let k : 2 + length e.arguments ≡ 0 + length (entry_classes e) = omega (arith, length_push e.arguments e.result) in
     so_so t (λ _. u) (λ _. v) ∙ (λ i. so (so (a i) (λ _. (b ∙ ap (λ j. classes_present ps j ds) k) i)) (λ _. c i))
     ∙ ap (λ r. so r (λ _. so (must (not (taken e es)) NameTaken) (λ _. agrees ps e 0 es))) (present_append ps 0 (entry_classes e) ds)
 

@@ -1,9 +1,10 @@
 // The rules for a new method row.
-ghost use Rattle.std.specs.Prelude.{◌≡◌, ◌+◌, ◌*◌, ◌^◌, ◌<◌, not, ◌&&◌, ◌++◌, map, length};
+ghost use Rattle.std.specs.Prelude.{◌≡◌, ◌+◌, ◌^◌, ◌<◌, not, ◌&&◌, ◌++◌, map, length};
 ghost use Rattle.semantics.specs.declared.refusal.Refusal.TheVariants.{ClassAbsent, NameTaken};
 ghost use Rattle.semantics.specs.Entries.{entry_of, entry_in};
 ghost use Rattle.semantics.specs.Form.{must};
-ghost use Rattle.semantics.specs.Methods.{label_of, method_of};
+ghost use Rattle.semantics.specs.Items.{items_of};
+ghost use Rattle.semantics.specs.Methods.{method_of};
 ghost use Rattle.semantics.specs.NewRows.{classes_present, entry_classes, row_classes, taken, same_signature, clashes, agrees, entry_rules, room_for};
 ghost use Rattle.semantics.specs.Reading.{so};
 ghost use Rattle.semantics.specs.Tree.{present};
@@ -12,7 +13,7 @@ use crate::env::Env;
 use classes::rows::Cell;
 use classes::table::ClassTable;
 use semantics::entry::Entry;
-use semantics::method::{Label, Method};
+use semantics::method::Method;
 use semantics::refusal::{Capacity, Refusal};
 
 pub const MAX_ROWS: usize = 64;
@@ -54,13 +55,12 @@ fn signature_present<T: ClassTable>(table: &T, entry: &Entry) -> Result<(), Refu
     present(table, 1 + entry.arguments.len(), entry.result)
 }
 
-// The classes of the labels' rows, of which the first has the place `first`.
-fn rows_present<T: ClassTable>(table: &T, first: usize, labels: &[Label]) -> Result<(), Refusal>
-    requires { first + 8 * length labels.now < 2 ^ 64 }
-    ensures { result ≡ classes_present (T.listed table.now) first (row_classes (map label_of labels.now)) }
+// The classes of the rows of a method's labels, which have the places behind those of its signature.
+fn rows_present<T: ClassTable>(table: &T, method: &Method) -> Result<(), Refusal>
+    ensures { result ≡ classes_present (T.listed table.now) (2 + length (items_of method.now.arguments)) (row_classes (method_of method.now).labels) }
 {
-    let mut place = first;
-    for label in labels {
+    let mut place = 2 + method.arguments.len();
+    for label in method.labels.as_slice() {
         all_present(table, place, label.row.as_slice())?;
         place += label.row.len();
     }
@@ -135,11 +135,7 @@ impl<T: ClassTable> Env<'_, T> {
     {
         let entry = entry_in(method);
         signature_present(self.table, &entry)?;
-        rows_present(
-            self.table,
-            2 + method.arguments.len(),
-            method.labels.as_slice(),
-        )?;
+        rows_present(self.table, method)?;
         self.goes_with(&entry)
     }
 }

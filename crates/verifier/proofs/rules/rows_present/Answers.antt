@@ -10,15 +10,15 @@ pub returns-in_err-all_present : goal.returns-in_err-all_present
 returns-in_err-all_present g c =
     let ps = g.T.ClassTable.listed c.args.table.now in
     exits c.from_residual.result _ c.from_residual.ensures.1
-    ∙ row_step ps c.loop-label.place _ c.loop-label.label-index c.args.labels.now c.label-item.result (Err c.in_err-all_present.field-0.0) _
-    (item_at c.args.labels.now c.loop-label.label-index c.label-item.result c.loop-label-test.true c.label-item.is)
+    ∙ row_step ps c.loop-label.place _ c.loop-label.label-index c.as_slice-label-items.result.now c.label-item.result (Err c.in_err-all_present.field-0.0) _
+    (item_at c.as_slice-label-items.result.now c.loop-label.label-index c.label-item.result c.loop-label-test.true c.label-item.is)
     (c.in_err-all_present.ensures ∙ ap (classes_present ps c.loop-label.place) (map-id _ ∙ c.as_slice.ensures)) refl c.loop-label.invariant.0
 
 pub loop-label-preserved : goal.loop-label-preserved
 loop-label-preserved g c =
     let ps = g.T.ClassTable.listed c.args.table.now in (
-      row_step ps c.loop-label.place c.len-place.result c.loop-label.label-index c.args.labels.now c.label-item.result (Ok tt) _
-          (item_at c.args.labels.now c.loop-label.label-index c.label-item.result c.loop-label-test.true c.label-item.is)
-          (c.in_ok-all_present.ensures ∙ ap (classes_present ps c.loop-label.place) (map-id _ ∙ c.as_slice.ensures)) c.len-place.ensures c.loop-label.invariant.0,
-      omega (arith, c.loop-label.invariant.1, c.len-place.ensures, few_items c.label-item.result.row),
+      row_step ps c.loop-label.place c.len-place-in-loop-label.result c.loop-label.label-index c.as_slice-label-items.result.now c.label-item.result (Ok tt) _
+          (item_at c.as_slice-label-items.result.now c.loop-label.label-index c.label-item.result c.loop-label-test.true c.label-item.is)
+          (c.in_ok-all_present.ensures ∙ ap (classes_present ps c.loop-label.place) (map-id _ ∙ c.as_slice.ensures)) c.len-place-in-loop-label.ensures c.loop-label.invariant.0,
+      omega (arith, c.loop-label.invariant.1, c.len-place-in-loop-label.ensures, few_items c.label-item.result.row),
     )
