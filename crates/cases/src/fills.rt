@@ -7,6 +7,7 @@ use semantics::array_vec::ArrayVec;
 use semantics::entry::Entry;
 use semantics::refusal::Refusal;
 use std::process::Abort;
+use verifier::env::Env;
 
 const MAX_TEXT: usize = 8192;
 
@@ -95,7 +96,11 @@ fn fill_on_trial_card<T: ClassTable + Drop>(
     let mut table = T::blank();
     let _ = table.add(0);
     let entries = [native(0, 0, 2), native(2, 1, 2), native(5, 1, 1)];
-    fill(&table, &entries, text, buffer)
+    let env = Env {
+        table: &table,
+        entries: &entries,
+    };
+    fill(&env, text, buffer)
 }
 
 fn refuses<T: ClassTable + Drop>(rt: &impl Abort) {

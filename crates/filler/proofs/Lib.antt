@@ -2,5 +2,4 @@ pub mod Joining
 pub mod Labelling
 pub mod Sweeping
 pub mod Filling
-pub mod Knowing
 pub mod Lawful

@@ -18,7 +18,8 @@ use semantics::method::Method;
 use semantics::refusal::{Capacity, Refusal};
 use text::form::form;
 use text::read::read;
-use verifier::rules::{MAX_ROWS, entry_in, entry_rules};
+use verifier::env::Env;
+use verifier::rules::{MAX_ROWS, entry_in};
 use writer::write;
 
 // Each of 16 labels is altered at most once by its first row and 7 times in each of 8 cells; the last sweep alters none.
@@ -36,15 +37,14 @@ fn finished(method: &Method, last: &Sweep, sweeps: usize) -> Result<(Method, usi
 
 // The method with the least rows that its labels can have, and the number of sweeps that found them.
 pub fn fill_rows<T: ClassTable>(
-    table: &T,
-    entries: &[Entry],
+    env: &Env<'_, T>,
     method: &Method,
 ) -> Result<(Method, usize), Refusal>
-    ensures { answered filled_method result ≡ filled_among (T.listed table.now) (map entry_of entries.now) (method_of method.now) }
+    ensures { answered filled_method result ≡ filled_among (T.listed env.now.table.now) (map entry_of env.now.entries.now) (method_of method.now) }
 {
     let mut rows = ArrayVec::repeat(None, method.labels.len());
     for sweeps in 0..MAX_SWEEPS {
-        let swept = sweep_points(table, entries, method, rows)?;
+        let swept = sweep_points(env, method, rows)?;
         if !swept.altered {
             return finished(method, &swept, sweeps + 1);
         }
@@ -71,35 +71,34 @@ pub fn with_entry(entries: &[Entry], entry: Entry) -> Result<ArrayVec<Entry, 65>
 }
 
 // The method that a text says, filled among the rows of a card and its own.
-fn fill_text<T: ClassTable>(
-    table: &T,
-    entries: &[Entry],
-    text: &[u8],
-) -> Result<(Method, usize), Refusal>
-    ensures { answered filled_method result ≡ filled_from (T.listed table.now) (map entry_of entries.now) text.now }
+fn fill_text<T: ClassTable>(env: &Env<'_, T>, text: &[u8]) -> Result<(Method, usize), Refusal>
+    ensures { answered filled_method result ≡ filled_from (T.listed env.now.table.now) (map entry_of env.now.entries.now) text.now }
 {
     let method = read(text)?;
     form(&method)?;
     let entry = entry_in(&method);
-    entry_rules(table, entries, &entry)?;
-    let known = with_entry(entries, entry)?;
-    fill_rows(table, known.as_slice(), &method)
+    env.entry_rules(&entry)?;
+    let known = with_entry(env.entries, entry)?;
+    let among = Env {
+        table: env.table,
+        entries: known.as_slice(),
+    };
+    fill_rows(&among, &method)
 }
 
 // Writes the text of the filled method into the buffer, and answers its length and the number of sweeps.
 pub fn fill<T: ClassTable>(
-    table: &T,
-    entries: &[Entry],
+    env: &Env<'_, T>,
     text: &[u8],
     buffer: &mut [u8],
 ) -> Result<(usize, usize), Refusal>
-    ensures answer { result ≡ filled_answer (T.listed table.now) (map entry_of entries.now) text.now buffer.old }
-    ensures after { buffer.new ≡ filled_into (T.listed table.now) (map entry_of entries.now) text.now buffer.old }
+    ensures answer { result ≡ filled_answer (T.listed env.now.table.now) (map entry_of env.now.entries.now) text.now buffer.old }
+    ensures after { buffer.new ≡ filled_into (T.listed env.now.table.now) (map entry_of env.now.entries.now) text.now buffer.old }
     ensures bound { IfOk result (λ x. x.0 ≤ length buffer.old) }
     // the filled table passes and is the least that does; a refusal excludes every table; it ends within 913 sweeps
-    ensures laws { FillsLawfully (T.listed table.now) (map entry_of entries.now) text.now }
+    ensures laws { FillsLawfully (T.listed env.now.table.now) (map entry_of env.now.entries.now) text.now }
 {
-    let (method, sweeps) = fill_text(table, entries, text)?;
+    let (method, sweeps) = fill_text(env, text)?;
     let len = write(&method, buffer)?;
     Ok((len, sweeps))
 }

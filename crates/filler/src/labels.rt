@@ -1,9 +1,8 @@
 // The labels of a method: which of them marks a point, and their rows.
 ghost use Rattle.std.specs.Prelude.{◌≡◌, ℕ, ◌<◌, map, None, slice_index_or};
-ghost use Rattle.semantics.specs.Fill.{label_number, row_or, with_rows, with_table};
+ghost use Rattle.semantics.specs.Fill.{label_number, with_rows, with_table};
 ghost use Rattle.semantics.specs.Items.{items_of};
 ghost use Rattle.semantics.specs.Methods.{label_of, method_of};
-ghost use Rattle.verifier.specs.Answers.{row_of};
 ghost use Rattle.filler.specs.Sweeps.{table_of};
 
 use semantics::array_vec::ArrayVec;
@@ -24,15 +23,6 @@ pub fn label_numbers(labels: &[Label]) -> ArrayVec<Option<usize>, 64>
     numbers
 }
 
-fn row_or_empty(row: Option<ArrayVec<u8, 8>>) -> ArrayVec<u8, 8>
-    ensures { items_of result ≡ row_or (row_of row) }
-{
-    match row {
-        Some(row) => row,
-        None => ArrayVec::new(0),
-    }
-}
-
 // The labels with the rows of a table in place of their own.
 fn labels_with(
     labels: &ArrayVec<Label, 16>,
@@ -42,7 +32,7 @@ fn labels_with(
 {
     let mut filled = *labels;
     for (i, label) in labels.as_slice().iter().enumerate() {
-        let row = row_or_empty(rows.get_or(i, None));
+        let row = rows.get_or(i, None).unwrap_or(ArrayVec::new(0));
         filled.set(
             i,
             Label {

@@ -17,9 +17,8 @@ pub fn join_rows<T: ClassTable>(
     ensures { items_of result ≡ join_rows (T.listed table.now) (items_of row.now) (items_of other.now) }
 {
     let mut joined = ArrayVec::new(0);
-    for i in 0..row.len().min(other.len()) {
-        let class = table.join(row.get_or(i, 0), other.get_or(i, 0));
-        let _ = joined.push(class);
+    for (class, other) in row.as_slice().iter().zip(other.as_slice()) {
+        let _ = joined.push(table.join(*class, *other));
     }
     joined
 }
@@ -42,8 +41,5 @@ pub fn joined_into<T: ClassTable>(
 pub fn differs(old: Option<ArrayVec<u8, 8>>, new: &ArrayVec<u8, 8>) -> bool
     ensures { result ≡ differs (row_of old) (items_of new.now) }
 {
-    match old {
-        Some(old) => old.as_slice() != new.as_slice(),
-        None => true,
-    }
+    old.is_none_or(|old| old.as_slice() != new.as_slice())
 }

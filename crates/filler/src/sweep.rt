@@ -11,13 +11,12 @@ use crate::labels::label_numbers;
 use crate::rows::{differs, joined_into};
 use classes::table::ClassTable;
 use semantics::array_vec::ArrayVec;
-use semantics::entry::Entry;
 use semantics::method::Method;
 use semantics::operation::Operation;
 use semantics::refusal::Refusal;
 use verifier::check::{carried, misfit_at};
+use verifier::env::Env;
 use verifier::labels::named_labels;
-use verifier::tests::own_tests;
 
 // Where a sweep stands: the labels' rows so far, whether one was altered, and the lowest point passed over.
 #[derive(Clone, Copy)]
@@ -87,37 +86,32 @@ impl Sweep {
     // What an operation does with the row at its point; answers the row behind it.
     fn visit<T: ClassTable>(
         &mut self,
-        table: &T,
-        entries: &[Entry],
+        env: &Env<'_, T>,
         method: &Method,
         point: usize,
         row: Option<ArrayVec<u8, 8>>,
         operation: &Operation,
     ) -> Result<Option<ArrayVec<u8, 8>>, Refusal>
-        ensures { behind_as result (sweep_meaning self.new) ≡ visited (T.listed table.now) (map entry_of entries.now) (method_of method.now) point (row_of row) (sweep_meaning self.old) (op_of operation.now) }
+        ensures { behind_as result (sweep_meaning self.new) ≡ visited (T.listed env.now.table.now) (map entry_of env.now.entries.now) (method_of method.now) point (row_of row) (sweep_meaning self.old) (op_of operation.now) }
     {
         let Some(row) = row else {
             self.pass_over(point);
             return Ok(None);
         };
-        match own_tests(table, entries, method, &row, operation) {
-            Ok(left) => {
-                self.comes_to(table, &row, named_labels(operation).as_slice());
-                Ok(carried(operation, left))
-            }
-            Err(misfit) => Err(misfit_at(point, misfit)),
-        }
+        let tested = env.own_tests(method, &row, operation);
+        let left = tested.map_err(|misfit| misfit_at(point, misfit))?;
+        self.comes_to(env.table, &row, named_labels(operation).as_slice());
+        Ok(carried(operation, left))
     }
 }
 
 // A sweep over all points, from the rows that the labels have so far.
 pub fn sweep_points<T: ClassTable>(
-    table: &T,
-    entries: &[Entry],
+    env: &Env<'_, T>,
     method: &Method,
     rows: ArrayVec<Option<ArrayVec<u8, 8>>, 16>,
 ) -> Result<Sweep, Refusal>
-    ensures { answered sweep_meaning result ≡ sweep_of (T.listed table.now) (map entry_of entries.now) (method_of method.now) (table_of rows) }
+    ensures { answered sweep_meaning result ≡ sweep_of (T.listed env.now.table.now) (map entry_of env.now.entries.now) (method_of method.now) (table_of rows) }
 {
     let numbers = label_numbers(method.labels.as_slice());
     let mut sweep = Sweep {
@@ -129,9 +123,9 @@ pub fn sweep_points<T: ClassTable>(
     let code = method.code.as_slice();
     for (point, operation) in code.iter().enumerate() {
         let label = numbers.get_or(point, None);
-        sweep.falls_into(table, label, current);
+        sweep.falls_into(env.table, label, current);
         let row = sweep.row_there(label, current);
-        current = sweep.visit(table, entries, method, point, row, operation)?;
+        current = sweep.visit(env, method, point, row, operation)?;
     }
     Ok(sweep)
 }

@@ -7,6 +7,7 @@ use classes::climbing::Climbing;
 use filler::fill::fill;
 use std::io;
 use std::io::{Read, Write};
+use verifier::env::Env;
 
 mod card;
 
@@ -34,7 +35,11 @@ fn main(rt: HostRuntime) -> io::Result<()> {
     let table: Climbing = card::trial_classes();
     let entries = card::trial_entries();
     let mut buffer = [0u8; MAX_TEXT];
-    match fill(&table, &entries, &text[0..len], &mut buffer) {
+    let env = Env {
+        table: &table,
+        entries: &entries,
+    };
+    match fill(&env, &text[0..len], &mut buffer) {
         Ok((written, _)) => rt.stdout().write_all(&buffer[0..written]),
         Err(refusal) => println!(rt; "{refusal}"),
     }

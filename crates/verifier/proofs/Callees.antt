@@ -1,22 +1,12 @@
 -- The row that is called, and what follows from its number.
-use Rattle.std.proofs.Common.{◌≡◌, ℕ, ◌+◌, ◌<◌, Bool, eqb, List, ◌∷◌, map, length, get_or, drop, Some, None, Ok, Err, Option, sym, refl, ap, ◌∙◌, add_assoc, arith}
-use Rattle.std.proofs.lemmas.List.{drop_more}
+use Rattle.std.proofs.Common.{◌≡◌, ℕ, eqb, List, map, length, get_or, Some, None, Ok, Err, Option, sym, refl, ap, ◌∙◌, arith}
 use Rattle.semantics.specs.declared.entry.Entry.{Entry}
 use Rattle.semantics.specs.declared.misfit.Misfit.TheVariants.{NoRow, Argument}
 use Rattle.semantics.specs.Entries.{EntryDef, entry_of, Found, found, lookup}
 use Rattle.semantics.specs.Items.{items_of}
 use Rattle.semantics.specs.Tests.{Tested, then, demand, needed, arguments_fit, taking, callee}
-use Rattle.semantics.specs.Tree.{fits}
 use Rattle.verifier.specs.Answers.{number_of, answered}
 use Rattle.verifier.proofs.Lookups.{RowFound, row_found}
-use Rattle.semantics.proofs.Walks.{walk_step}
-
--- an argument and the class that is declared for it
-pub argument_step : (ps : List ℕ) (i : ℕ) (xs ys : List ℕ) (b : Bool) (t all : Tested (Unit {0})) → i < length xs → length xs ≡ length ys → b ≡ fits ps (get_or xs i 0) (get_or ys i 0) → t ≡ demand b (Argument (3 + i)) → arguments_fit ps (3 + i) (drop i xs) (drop i ys) ≡ all → then t (λ _. arguments_fit ps (3 + (i + 1)) (drop (i + 1) xs) (drop (i + 1) ys)) ≡ all
-argument_step ps i xs ys b t all h k f e inv =
-    ap (λ n. then t (λ _. arguments_fit ps n (drop (i + 1) xs) (drop (i + 1) ys))) (sym (add_assoc 3 i 1))
-    ∙ walk_step (λ zs. arguments_fit ps (3 + i) zs (drop i ys)) (λ u. then u (λ _. arguments_fit ps (3 + i + 1) (drop (i + 1) xs) (drop (i + 1) ys))) xs i (get_or xs i 0) t _ all
-    (drop_more xs i 0 h) (e ∙ ap (λ u. demand u (Argument (3 + i))) f) (ap (arguments_fit ps (3 + i) (get_or xs i 0 ∷ drop (i + 1) xs)) (drop_more ys i 0 (omega arith))) inv
 
 -- the tests of a row that was found
 abbrev row_tests : List ℕ → List ℕ → List ℕ → {X : Type 0} → X → Tested X
@@ -39,13 +29,6 @@ any_row (Err e) u x y = refl
 abbrev calling : List ℕ → List ℕ → Option Found → Tested Found
 calling ps cs f = then (needed f NoRow) (λ g. row_tests ps cs g.entry.arguments g)
 
-none_called : (ps cs : List ℕ) (f : Option Found) → None ≡ number_of f → Err NoRow ≡ answered (λ g. g.number) (calling ps cs f)
-none_called ps cs None e = refl
-none_called ps cs (Some f) e = let z : ◌≡◌ {A = ℕ} 0 1 = cc in absurd (omega arith)
-
-pub callee_none : (ps : List ℕ) (es : List EntryDef) (c m : ℕ) (cs : List ℕ) → None ≡ number_of (lookup ps es c m) → Err NoRow ≡ answered (λ f. f.number) (callee ps es c m cs)
-callee_none ps es c m cs = none_called ps cs (lookup ps es c m)
-
 -- the number k of a row that was found, after its tests
 callee_by : (ps : List ℕ) (xs : List Entry) (c m : ℕ) (cs : List ℕ) (k : ℕ) (d : Entry) → Some k ≡ number_of (lookup ps (map entry_of xs) c m) → row_tests ps cs (items_of (get_or xs k d).arguments) k ≡ answered (λ f. f.number) (callee ps (map entry_of xs) c m cs)
 callee_by ps xs c m cs k d e =
@@ -55,13 +38,13 @@ callee_by ps xs c m cs k d e =
     ∙ tests_as (λ g. g.number) (demand (eqb (length cs) (length f.entry.arguments)) (Argument 2)) (arguments_fit ps 3 cs f.entry.arguments) f
     ∙ ap (λ o. answered (λ g. g.number) (calling ps cs o)) (sym r.is)
 
--- the same with that row's entry y, and the answer t of its tests
-pub callee_tests : (ps : List ℕ) (xs : List Entry) (c m : ℕ) (cs : List ℕ) (k : ℕ) (y : Entry) (t : Tested (Unit {0})) → Some k ≡ number_of (lookup ps (map entry_of xs) c m) → y ≡ get_or xs k y → t ≡ answered (λ _. tt) (taking ps cs (found 0 (entry_of y))) → then t (λ _. Ok k) ≡ answered (λ f. f.number) (callee ps (map entry_of xs) c m cs)
-callee_tests ps xs c m cs k y t e at a =
+-- the same by the answer t of that row's tests
+pub callee_tests : (ps : List ℕ) (xs : List Entry) (c m : ℕ) (cs : List ℕ) (k : ℕ) (d : Entry) (t : Tested (Unit {0})) → Some k ≡ number_of (lookup ps (map entry_of xs) c m) → t ≡ answered (λ _. tt) (taking ps cs (found 0 (entry_of (get_or xs k d)))) → then t (λ _. Ok k) ≡ answered (λ f. f.number) (callee ps (map entry_of xs) c m cs)
+callee_tests ps xs c m cs k d t e a =
+    let as' = items_of (get_or xs k d).arguments in
     ap (λ u. then u (λ _. Ok k)) a
-    ∙ any_row (demand (eqb (length cs) (length (items_of y.arguments))) (Argument 2)) (arguments_fit ps 3 cs (items_of y.arguments)) (found 0 (entry_of y)) k
-    ∙ ap (λ z. row_tests ps cs (items_of z.arguments) k) at
-    ∙ callee_by ps xs c m cs k y e
+    ∙ any_row (demand (eqb (length cs) (length as')) (Argument 2)) (arguments_fit ps 3 cs as') (found 0 (entry_of (get_or xs k d))) k
+    ∙ callee_by ps xs c m cs k d e
 
 -- a row that is called was found
 called_found : (ps cs : List ℕ) (f : Option Found) (k : ℕ) → Ok k ≡ answered (λ g. g.number) (calling ps cs f) → (Some k ≡ number_of f) × ((g : Found) → f ≡ Some g → calling ps cs f ≡ Ok g)

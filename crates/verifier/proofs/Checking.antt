@@ -7,8 +7,16 @@ use Rattle.semantics.specs.Entries.{EntryDef}
 use Rattle.semantics.specs.Form.{Formed}
 use Rattle.semantics.specs.Methods.{Op, MethodDef, op_of}
 use Rattle.semantics.specs.Reading.{so}
+use Rattle.semantics.specs.Tests.{Tested, then, own_tests, named_labels, first_label, labels_fit, cells_fit}
+use Rattle.verifier.proofs.LabelRows.{classes_are_cells}
 use Rattle.verifier.specs.Points.{tested_row, checked}
 use Rattle.semantics.proofs.Walks.{walk_step, so_so}
+
+-- an operation's own tests, then its labels'
+pub tests_by : (ps : List ℕ) (es : List EntryDef) (m : MethodDef) (ts : List ℕ) (o : Op) (us : List ℕ) (t : Tested (Unit {0})) → Ok us ≡ own_tests ps es m ts o → t ≡ cells_fit ps (λ c. c) m.labels ts (first_label o) (named_labels o) → then t (λ _. Ok us) ≡ point_tests ps es m ts o
+tests_by ps es m ts o us t e f =
+    ap (λ r. then r (λ _. Ok us)) (f ∙ classes_are_cells ps m.labels ts (first_label o) (named_labels o))
+    ∙ ap (λ r. then r (λ vs. then (labels_fit ps m.labels ts (first_label o) (named_labels o)) (λ _. Ok vs))) e
 
 row_on : {Y : Type 0} (c : Option (List ℕ)) (f : List ℕ → Result (Option (List ℕ)) Refusal) (h : Option (List ℕ) → Result Y Refusal) → at_row c (h None) (λ ts. so (f ts) h) ≡ so (at_row c (Ok None) f) h
 row_on None f h = refl

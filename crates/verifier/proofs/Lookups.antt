@@ -1,5 +1,6 @@
 -- The lookup by candidates, and the row that a lookup finds.
 use Rattle.std.proofs.Common.{◌≡◌, ℕ, suc, ◌+◌, ◌-◌, ◌<◌, ◌≤◌, Bool, true, false, cond, not, ◌&&◌, eqb, List, [], ◌∷◌, map, length, get_or, drop, IfSome, Some, None, Option, sym, refl, ap, ◌∙◌, arith}
+use Rattle.std.specs.Option.{option_map}
 use Rattle.std.proofs.lemmas.List.{drop_more, length-drop, length-map, get_or-map}
 use Rattle.std.proofs.lemmas.Bool.{cond_both}
 use Rattle.semantics.specs.declared.entry.Entry.{Entry}
@@ -15,8 +16,7 @@ candidate_of None = None
 candidate_of (Some f) = Some (candidate f)
 
 abbrev pub numbered : Option Candidate → Option ℕ
-numbered None = None
-numbered (Some a) = Some a.number
+numbered best = option_map (λ (a : Candidate). a.number) best
 
 -- the nearest candidate after the rows es, of which the first has the number i
 abbrev pub nearest_on : List ℕ → ℕ → ℕ → Option Candidate → ℕ → List EntryDef → Option Candidate

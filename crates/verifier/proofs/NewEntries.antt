@@ -1,25 +1,20 @@
 -- The rules for a new row, by their parts.
-use Rattle.std.proofs.Common.{◌≡◌, ℕ, ◌+◌, ◌<◌, Bool, true, false, not, ◌&&◌, ◌||◌, eqb, List, [], ◌∷◌, ◌++◌, map, length, get_or, drop, Decides, sym, refl, ap, ◌∙◌, add-zero, add_assoc, arith, rules}
+use Rattle.std.proofs.Common.{◌≡◌, ℕ, ◌+◌, Bool, true, false, not, ◌&&◌, ◌||◌, eqb, List, [], ◌∷◌, ◌++◌, map, length, drop, Decides, sym, refl, ap, ◌∙◌, add-zero, arith, rules}
+use Rattle.std.specs.List.{list_any}
 use Rattle.std.proofs.lemmas.Slice.Eq.{compares_Decides}
-use Rattle.std.proofs.lemmas.List.{drop_more, length_push}
+use Rattle.std.proofs.lemmas.List.{length_push}
 use Rattle.semantics.specs.declared.entry.Entry.{Entry}
 use Rattle.semantics.specs.declared.method.Label.{Label}
-use Rattle.semantics.specs.declared.refusal.Refusal.TheVariants.{ClassAbsent, NameTaken, SignatureDiffers}
+use Rattle.semantics.specs.declared.refusal.Refusal.TheVariants.{ClassAbsent, NameTaken}
 use Rattle.semantics.specs.Entries.{EntryDef, entry_of}
 use Rattle.semantics.specs.Form.{Formed, must}
 use Rattle.semantics.specs.Items.{items_of}
 use Rattle.semantics.specs.Methods.{label_of}
-use Rattle.semantics.specs.NewRows.{classes_present, entry_classes, row_classes, taken, same_list, clashes, agrees, entry_rules}
+use Rattle.semantics.specs.NewRows.{classes_present, entry_classes, row_classes, taken, same_list, agrees, entry_rules}
 use Rattle.semantics.specs.Reading.{so}
 use Rattle.semantics.specs.Tree.{present}
 use Rattle.semantics.proofs.Searches.{so_done}
 use Rattle.semantics.proofs.Walks.{walk_step, so_so}
-
--- a class of several
-pub class_step : (ps : List ℕ) (k i : ℕ) (cs : List ℕ) (t all : Formed) → i < length cs → t ≡ must (present ps (get_or cs i 0)) (ClassAbsent (k + i)) → classes_present ps (k + i) (drop i cs) ≡ all → so t (λ _. classes_present ps (k + (i + 1)) (drop (i + 1) cs)) ≡ all
-class_step ps k i cs t all h e inv =
-    ap (λ n. so t (λ _. classes_present ps n (drop (i + 1) cs))) (sym (add_assoc k i 1))
-    ∙ walk_step (classes_present ps (k + i)) (λ u. so u (λ _. classes_present ps (k + i + 1) (drop (i + 1) cs))) cs i (get_or cs i 0) t _ all (drop_more cs i 0 h) e refl inv
 
 -- some classes, then more
 pub present_append : (ps : List ℕ) (k : ℕ) (xs ys : List ℕ) → so (classes_present ps k xs) (λ _. classes_present ps (k + length xs) ys) ≡ classes_present ps k (xs ++ ys)
@@ -38,9 +33,9 @@ signature_by ps e n t u v a b l c =
     ∙ ap (λ r. so (must (present ps e.class) (ClassAbsent 0)) (λ _. r)) (present_append ps 1 e.arguments (e.result ∷ []))
 
 -- the signature, the labels' rows, the other rows
-pub rules_by : (ps : List ℕ) (es : List EntryDef) (e : EntryDef) (ds : List ℕ) (n : ℕ) (t u v : Formed) → t ≡ classes_present ps 0 (entry_classes e) → n ≡ length e.arguments → u ≡ classes_present ps (2 + n) ds → v ≡ so (must (not (taken e es)) NameTaken) (λ _. agrees ps e 0 es) → so t (λ _. so u (λ _. v)) ≡ entry_rules ps es e (entry_classes e ++ ds)
-rules_by ps es e ds n t u v a l b c =
-    let k : 2 + n ≡ 0 + length (entry_classes e) = omega (arith, length_push e.arguments e.result) in
+pub rules_by : (ps : List ℕ) (es : List EntryDef) (e : EntryDef) (ds : List ℕ) (t u v : Formed) → t ≡ classes_present ps 0 (entry_classes e) → u ≡ classes_present ps (2 + length e.arguments) ds → v ≡ so (must (not (taken e es)) NameTaken) (λ _. agrees ps e 0 es) → so t (λ _. so u (λ _. v)) ≡ entry_rules ps es e (entry_classes e ++ ds)
+rules_by ps es e ds t u v a b c =
+    let k : 2 + length e.arguments ≡ 0 + length (entry_classes e) = omega (arith, length_push e.arguments e.result) in
     so_so t (λ _. u) (λ _. v) ∙ (λ i. so (so (a i) (λ _. (b ∙ ap (λ j. classes_present ps j ds) k) i)) (λ _. c i))
     ∙ ap (λ r. so r (λ _. so (must (not (taken e es)) NameTaken) (λ _. agrees ps e 0 es))) (present_append ps 0 (entry_classes e) ds)
 
@@ -53,13 +48,10 @@ same_test false false p q = refl
 pub same_list_lem : (xs ys : List ℕ) (b : Bool) → Decides b (xs ≡ ys) → b ≡ same_list xs ys
 same_list_lem xs ys b d = same_test b (same_list xs ys) d (compares_Decides same_list (search rules) xs ys)
 
--- another row that the new row clashes with, or those behind it
-pub agree_step : (ps : List ℕ) (e : Entry) (i : ℕ) (xs : List Entry) (x : Entry) (b : Bool) (all : Formed) → drop i xs ≡ x ∷ drop (i + 1) xs → b ≡ clashes ps (entry_of e) (entry_of x) → agrees ps (entry_of e) i (map entry_of (drop i xs)) ≡ all → so (must (not b) (SignatureDiffers i)) (λ _. agrees ps (entry_of e) (i + 1) (map entry_of (drop (i + 1) xs))) ≡ all
-agree_step ps e i xs x b all at h inv =
-    walk_step (λ l. agrees ps (entry_of e) i (map entry_of l)) (λ c. so (must (not c) (SignatureDiffers i)) (λ _. agrees ps (entry_of e) (i + 1) (map entry_of (drop (i + 1) xs)))) xs i x b _ all at h refl inv
-
-pub taken_step : (e : Entry) (i : ℕ) (xs : List Entry) (x : Entry) (b all : Bool) → drop i xs ≡ x ∷ drop (i + 1) xs → b ≡ (eqb x.name e.name && eqb x.class e.class) → taken (entry_of e) (map entry_of (drop i xs)) ≡ all → (b || taken (entry_of e) (map entry_of (drop (i + 1) xs))) ≡ all
-taken_step e i xs x b all at h inv = walk_step (λ l. taken (entry_of e) (map entry_of l)) (λ c. c || taken (entry_of e) (map entry_of (drop (i + 1) xs))) xs i x b _ all at h refl inv
+-- a row of that name on that class
+pub taken_any : (e : EntryDef) (xs : List Entry) → list_any (λ x. eqb x.name e.name && eqb x.class e.class) xs ≡ taken e (map entry_of xs)
+taken_any e [] = refl
+taken_any e (x ∷ xs) = ap (λ b. (eqb x.name e.name && eqb x.class e.class) || b) (taken_any e xs)
 
 -- the row of a label, then those of the labels behind it
 pub row_step : (ps : List ℕ) (k n i : ℕ) (xs : List Label) (x : Label) (t all : Formed) → drop i xs ≡ x ∷ drop (i + 1) xs → t ≡ classes_present ps k (items_of x.row) → n ≡ length (items_of x.row) → classes_present ps k (row_classes (map label_of (drop i xs))) ≡ all → so t (λ _. classes_present ps (k + n) (row_classes (map label_of (drop (i + 1) xs)))) ≡ all

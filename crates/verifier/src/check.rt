@@ -7,12 +7,11 @@ ghost use Rattle.semantics.specs.Methods.{label_of, method_of, op_of};
 ghost use Rattle.verifier.specs.Answers.{answered, row_of};
 ghost use Rattle.verifier.specs.Points.{labelled_row, tested_row, checked};
 
-use crate::labels::labels_fit;
-use crate::tests::own_tests;
+use crate::env::Env;
+use crate::labels::named_fit;
 use classes::rows::row_fits;
 use classes::table::ClassTable;
 use semantics::array_vec::ArrayVec;
-use semantics::entry::Entry;
 use semantics::method::{Label, Method};
 use semantics::misfit::Misfit;
 use semantics::operation::Operation;
@@ -35,15 +34,11 @@ pub fn misfit_at(point: usize, misfit: Misfit) -> Refusal
 }
 
 // The row of the label of a point.
-fn row_at(labels: &[Label], point: usize) -> Option<ArrayVec<u8, 8>>
+pub fn row_at(labels: &[Label], point: usize) -> Option<ArrayVec<u8, 8>>
     ensures { row_of result ≡ labelled_row (label_at_point (map label_of labels.now) point) }
 {
-    for label in labels {
-        if label.point as usize == point {
-            return Some(label.row);
-        }
-    }
-    None
+    let label = labels.iter().find(|label| label.point as usize == point);
+    label.map(|label| label.row)
 }
 
 // The row at a point: one that comes there has to fit the label's, which is then current.
@@ -79,63 +74,66 @@ pub fn carried(operation: &Operation, row: ArrayVec<u8, 8>) -> Option<ArrayVec<u
     }
 }
 
-// An operation's own tests, then its row against the labels that it names.
-fn point_tests<T: ClassTable>(
-    table: &T,
-    entries: &[Entry],
-    method: &Method,
-    row: &ArrayVec<u8, 8>,
-    operation: &Operation,
-) -> Result<ArrayVec<u8, 8>, Misfit>
-    ensures { answered items_of result ≡ point_tests (T.listed table.now) (map entry_of entries.now) (method_of method.now) (items_of row.now) (op_of operation.now) }
-{
-    let after = own_tests(table, entries, method, row, operation)?;
-    labels_fit(table, method.labels.as_slice(), row.as_slice(), operation)?;
-    Ok(after)
-}
-
-// The tests of the operation at a point where the row is current, and the row behind it.
-fn tested<T: ClassTable>(
-    table: &T,
-    entries: &[Entry],
-    method: &Method,
-    point: usize,
-    operation: &Operation,
-    row: &ArrayVec<u8, 8>,
-) -> Result<Option<ArrayVec<u8, 8>>, Refusal>
-    ensures { answered row_of result ≡ tested_row (T.listed table.now) (map entry_of entries.now) (method_of method.now) point (op_of operation.now) (items_of row.now) }
-{
-    match point_tests(table, entries, method, row, operation) {
-        Ok(after) => Ok(carried(operation, after)),
-        Err(misfit) => Err(misfit_at(point, misfit)),
+impl<T: ClassTable> Env<'_, T> {
+    // An operation's own tests, then its row against the labels that it names.
+    fn point_tests(
+        &self,
+        method: &Method,
+        row: &ArrayVec<u8, 8>,
+        operation: &Operation,
+    ) -> Result<ArrayVec<u8, 8>, Misfit>
+        ensures { answered items_of result ≡ point_tests (T.listed self.now.table.now) (map entry_of self.now.entries.now) (method_of method.now) (items_of row.now) (op_of operation.now) }
+    {
+        let after = self.own_tests(method, row, operation)?;
+        named_fit(
+            self.table,
+            method.labels.as_slice(),
+            row.as_slice(),
+            operation,
+        )?;
+        Ok(after)
     }
-}
 
-// The operation at a point, and the row behind it.
-fn check_point<T: ClassTable>(
-    table: &T,
-    entries: &[Entry],
-    method: &Method,
-    point: usize,
-    current: Option<ArrayVec<u8, 8>>,
-    operation: &Operation,
-) -> Result<Option<ArrayVec<u8, 8>>, Refusal>
-    ensures { answered row_of result ≡ checked (T.listed table.now) (map entry_of entries.now) (method_of method.now) point (row_of current) (op_of operation.now) }
-{
-    match arrived(table, method.labels.as_slice(), point, current)? {
-        Some(row) => tested(table, entries, method, point, operation, &row),
-        None => Ok(None),
+    // The tests of the operation at a point where the row is current, and the row behind it.
+    fn tested(
+        &self,
+        method: &Method,
+        point: usize,
+        operation: &Operation,
+        row: &ArrayVec<u8, 8>,
+    ) -> Result<Option<ArrayVec<u8, 8>>, Refusal>
+        ensures { answered row_of result ≡ tested_row (T.listed self.now.table.now) (map entry_of self.now.entries.now) (method_of method.now) point (op_of operation.now) (items_of row.now) }
+    {
+        let tested = self.point_tests(method, row, operation);
+        let after = tested.map_err(|misfit| misfit_at(point, misfit))?;
+        Ok(carried(operation, after))
     }
-}
 
-// The first fault of a method whose row is among the entries, if there is one.
-pub fn check<T: ClassTable>(table: &T, entries: &[Entry], method: &Method) -> Result<(), Refusal>
-    ensures { result ≡ check_of (T.listed table.now) (map entry_of entries.now) (method_of method.now) }
-{
-    let mut current = Some(ArrayVec::repeat(0, method.temporaries as usize));
-    let code = method.code.as_slice();
-    for (point, operation) in code.iter().enumerate() {
-        current = check_point(table, entries, method, point, current, operation)?;
+    // The operation at a point, and the row behind it.
+    fn check_point(
+        &self,
+        method: &Method,
+        point: usize,
+        current: Option<ArrayVec<u8, 8>>,
+        operation: &Operation,
+    ) -> Result<Option<ArrayVec<u8, 8>>, Refusal>
+        ensures { answered row_of result ≡ checked (T.listed self.now.table.now) (map entry_of self.now.entries.now) (method_of method.now) point (row_of current) (op_of operation.now) }
+    {
+        match arrived(self.table, method.labels.as_slice(), point, current)? {
+            Some(row) => self.tested(method, point, operation, &row),
+            None => Ok(None),
+        }
     }
-    Ok(())
+
+    // The first fault of a method whose row is among the entries, if there is one.
+    pub fn check(&self, method: &Method) -> Result<(), Refusal>
+        ensures { result ≡ check_of (T.listed self.now.table.now) (map entry_of self.now.entries.now) (method_of method.now) }
+    {
+        let mut current = Some(ArrayVec::repeat(0, method.temporaries as usize));
+        let code = method.code.as_slice();
+        for (point, operation) in code.iter().enumerate() {
+            current = self.check_point(method, point, current, operation)?;
+        }
+        Ok(())
+    }
 }

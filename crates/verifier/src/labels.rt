@@ -1,8 +1,8 @@
 // The labels that an operation names, and their rows.
-ghost use Rattle.std.specs.Prelude.{◌≡◌, ◌+◌, ◌^◌, ◌<◌, map, length};
+ghost use Rattle.std.specs.Prelude.{◌≡◌, ◌≤◌, map};
 ghost use Rattle.semantics.specs.Items.{items_of};
 ghost use Rattle.semantics.specs.Methods.{label_of, op_of};
-ghost use Rattle.semantics.specs.Tests.{label_row, named_labels, first_label, labels_fit, cells_fit};
+ghost use Rattle.semantics.specs.Tests.{label_row, named_labels, first_label, cells_fit};
 
 use crate::tests::demand;
 use classes::rows::{Cell, row_fits};
@@ -16,20 +16,15 @@ use semantics::operation::Operation;
 fn label_row(labels: &[Label], label: u8) -> ArrayVec<u8, 8>
     ensures { items_of result ≡ label_row (map label_of labels.now) label }
 {
-    let at = label as usize;
-    if at < labels.len() {
-        labels[at].row
-    } else {
-        ArrayVec::new(0)
-    }
+    let label = labels.get(label as usize);
+    label.map_or_else(|| ArrayVec::new(0), |label| label.row)
 }
 
 pub fn named_labels(operation: &Operation) -> ArrayVec<u8, 8>
     ensures { items_of result ≡ named_labels (op_of operation.now) }
 {
     match operation {
-        Operation::Jump(label) => ArrayVec::repeat(*label, 1),
-        Operation::JumpIf(_, label) => ArrayVec::repeat(*label, 1),
+        Operation::Jump(label) | Operation::JumpIf(_, label) => ArrayVec::repeat(*label, 1),
         Operation::JumpList(_, labels) => *labels,
         _ => ArrayVec::new(0),
     }
@@ -37,60 +32,13 @@ pub fn named_labels(operation: &Operation) -> ArrayVec<u8, 8>
 
 // The operand that the first of the named labels is.
 fn first_label(operation: &Operation) -> usize
-    ensures { result ≡ first_label (op_of operation.now) }
+    ensures value { result ≡ first_label (op_of operation.now) }
+    ensures bound { result ≤ 1 }
 {
     match operation {
         Operation::JumpIf(..) | Operation::JumpList(..) => 1,
         _ => 0,
     }
-}
-
-// A row of cells against the rows of the named labels, of which the first is the operand `first`.
-fn cells_fit<T: ClassTable, C: Cell>(
-    table: &T,
-    labels: &[Label],
-    row: &[C],
-    first: usize,
-    named: &[u8],
-) -> Result<(), Misfit>
-    requires { first + length named.now < 2 ^ 64 }
-    ensures { result ≡ cells_fit (T.listed table.now) C.Cell.kind (map label_of labels.now) row.now first named.now }
-{
-    for (i, label) in named.iter().enumerate() {
-        let wanted = label_row(labels, *label);
-        demand(
-            row_fits(table, row, wanted.as_slice()),
-            Misfit::Row { operand: first + i },
-        )?;
-    }
-    Ok(())
-}
-
-// The row against the rows of the named labels, of which the first is the operand `first`.
-fn rows_fit<T: ClassTable>(
-    table: &T,
-    labels: &[Label],
-    row: &[u8],
-    first: usize,
-    named: &[u8],
-) -> Result<(), Misfit>
-    requires { first + length named.now < 2 ^ 64 }
-    ensures { result ≡ labels_fit (T.listed table.now) (map label_of labels.now) row.now first named.now }
-{
-    cells_fit(table, labels, row, first, named)
-}
-
-// The row against the rows of the labels that the operation names.
-pub fn labels_fit<T: ClassTable>(
-    table: &T,
-    labels: &[Label],
-    row: &[u8],
-    operation: &Operation,
-) -> Result<(), Misfit>
-    ensures { result ≡ labels_fit (T.listed table.now) (map label_of labels.now) row.now (first_label (op_of operation.now)) (named_labels (op_of operation.now)) }
-{
-    let named = named_labels(operation);
-    rows_fit(table, labels, row, first_label(operation), named.as_slice())
 }
 
 // A row of cells against the rows of the labels that the operation names.
@@ -102,6 +50,14 @@ pub fn named_fit<T: ClassTable, C: Cell>(
 ) -> Result<(), Misfit>
     ensures { result ≡ cells_fit (T.listed table.now) C.Cell.kind (map label_of labels.now) row.now (first_label (op_of operation.now)) (named_labels (op_of operation.now)) }
 {
+    let first = first_label(operation);
     let named = named_labels(operation);
-    cells_fit(table, labels, row, first_label(operation), named.as_slice())
+    for (i, label) in named.as_slice().iter().enumerate() {
+        let wanted = label_row(labels, *label);
+        demand(
+            row_fits(table, row, wanted.as_slice()),
+            Misfit::Row { operand: first + i },
+        )?;
+    }
+    Ok(())
 }

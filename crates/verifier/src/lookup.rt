@@ -4,6 +4,7 @@ ghost use Rattle.semantics.specs.Entries.{entry_of, lookup};
 ghost use Rattle.verifier.specs.Answers.{number_of};
 ghost use Rattle.verifier.specs.Candidates.{nearer, considered};
 
+use crate::env::Env;
 use classes::table::ClassTable;
 use semantics::entry::Entry;
 
@@ -45,17 +46,16 @@ fn considered<T: ClassTable>(
     Some(nearer(table, best, next))
 }
 
-// The number of the row of that name on the class or on the nearest class above it.
-pub fn lookup<T: ClassTable>(table: &T, entries: &[Entry], class: u8, name: u8) -> Option<usize>
-    ensures value { result ≡ number_of (lookup (T.listed table.now) (map entry_of entries.now) class name) }
-    ensures within { IfSome result (λ k. k < length entries.now) }
-{
-    let mut best = None;
-    for (number, entry) in entries.iter().enumerate() {
-        best = considered(table, class, name, best, number, entry);
-    }
-    match best {
-        Some(nearest) => Some(nearest.number),
-        None => None,
+impl<T: ClassTable> Env<'_, T> {
+    // The number of the row of that name on the class or on the nearest class above it.
+    pub fn lookup(&self, class: u8, name: u8) -> Option<usize>
+        ensures value { result ≡ number_of (lookup (T.listed self.now.table.now) (map entry_of self.now.entries.now) class name) }
+        ensures within { IfSome result (λ k. k < length self.now.entries.now) }
+    {
+        let mut best = None;
+        for (number, entry) in self.entries.iter().enumerate() {
+            best = considered(self.table, class, name, best, number, entry);
+        }
+        best.map(|nearest| nearest.number)
     }
 }

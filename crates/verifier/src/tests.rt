@@ -1,5 +1,5 @@
 // The tests of an operation on the classes of its operands.
-ghost use Rattle.std.specs.Prelude.{◌≡◌, ◌<◌, ◌≤◌, ◌∷◌, map, length, IfOk, Ok, slice_index};
+ghost use Rattle.std.specs.Prelude.{◌≡◌, ◌<◌, ◌∷◌, map, length, IfOk, Ok, slice_index};
 ghost use Rattle.semantics.specs.Entries.{entry_of, found};
 ghost use Rattle.semantics.specs.Items.{items_of};
 ghost use Rattle.semantics.specs.Methods.{method_of, op_of};
@@ -7,7 +7,7 @@ ghost use Rattle.semantics.specs.Tests.{then, demand, operand_class, arguments_f
 ghost use Rattle.semantics.specs.Tree.{fits};
 ghost use Rattle.verifier.specs.Answers.{answered};
 
-use crate::lookup::lookup;
+use crate::env::Env;
 use classes::table::ClassTable;
 use semantics::array_vec::ArrayVec;
 use semantics::entry::Entry;
@@ -37,51 +37,17 @@ fn declared_class(class: u8, arguments: &ArrayVec<u8, 7>, local: u8) -> u8
     arguments.get_or((local - 1) as usize, 0)
 }
 
-// The class that a local is declared with.
-fn local_class(method: &Method, local: u8) -> u8
-    ensures { result ≡ slice_index (locals_of (method_of method.now)) local }
-{
-    declared_class(method.class, &method.arguments, local)
-}
-
-fn operand_class(method: &Method, row: &ArrayVec<u8, 8>, operand: Operand) -> u8
-    ensures { result ≡ operand_class (locals_of (method_of method.now)) (items_of row.now) operand }
-{
-    match operand {
-        Operand::Local(n) => local_class(method, n),
-        Operand::Temporary(n) => row.get_or(n as usize, 0),
-        Operand::Constant(_) => INT,
-    }
-}
-
-fn operand_classes(
-    method: &Method,
-    row: &ArrayVec<u8, 8>,
-    operands: &ArrayVec<Operand, 7>,
-) -> ArrayVec<u8, 7>
-    ensures { items_of result ≡ map (operand_class (locals_of (method_of method.now)) (items_of row.now)) (items_of operands.now) }
-{
-    let mut classes = ArrayVec::new(0);
-    for operand in operands.as_slice() {
-        let _ = classes.push(operand_class(method, row, *operand));
-    }
-    classes
-}
-
-// The classes of arguments against as many that a signature declares.
+// The classes of arguments against those that a signature declares.
 fn arguments_fit<T: ClassTable>(table: &T, given: &[u8], declared: &[u8]) -> Result<(), Misfit>
-    requires { (length given.now ≡ length declared.now) × (length declared.now ≤ 7) }
     ensures { result ≡ arguments_fit (T.listed table.now) 3 given.now declared.now }
 {
-    for (i, class) in given.iter().enumerate() {
-        demand(
-            table.fits(*class, declared[i]),
-            Misfit::Argument {
-                operand: FIRST_ARGUMENT + i,
-            },
-        )?;
+    let mut pairs = given.iter().zip(declared);
+    match pairs.position(|(class, declared)| !table.fits(*class, *declared)) {
+        Some(i) => Err(Misfit::Argument {
+            operand: FIRST_ARGUMENT + i,
+        }),
+        None => Ok(()),
     }
-    Ok(())
 }
 
 // Whether a row takes arguments of the given classes: their count, then each of them.
@@ -94,24 +60,6 @@ pub fn taking<T: ClassTable>(table: &T, entry: &Entry, given: &[u8]) -> Result<(
         Misfit::Argument { operand: NAME },
     )?;
     arguments_fit(table, given, declared.as_slice())
-}
-
-// The number of the row that a name means on a receiver of a class, with arguments of the given classes.
-pub fn callee<T: ClassTable>(
-    table: &T,
-    entries: &[Entry],
-    class: u8,
-    name: u8,
-    given: &[u8],
-) -> Result<usize, Misfit>
-    ensures value { result ≡ answered (λ f. f.number) (callee (T.listed table.now) (map entry_of entries.now) class name given.now) }
-    ensures within { IfOk result (λ k. k < length entries.now) }
-{
-    let Some(row) = lookup(table, entries, class, name) else {
-        return Err(Misfit::NoRow);
-    };
-    taking(table, &entries[row], given)?;
-    Ok(row)
 }
 
 // Whether the place may hold a result of that class, in a method of a class with arguments of these classes.
@@ -133,94 +81,129 @@ pub fn may_hold<T: ClassTable>(
     }
 }
 
-// The row after a result of that class was put into its place.
-fn put_into<T: ClassTable>(
-    table: &T,
-    method: &Method,
-    row: &ArrayVec<u8, 8>,
-    into: Destination,
-    class: u8,
-) -> Result<ArrayVec<u8, 8>, Misfit>
-    ensures { answered items_of result ≡ put_into (T.listed table.now) (locals_of (method_of method.now)) (items_of row.now) into class }
-{
-    may_hold(table, method.class, &method.arguments, into, class)?;
-    let mut after = *row;
-    if let Destination::Temporary(n) = into {
-        after.set(n as usize, class);
+// What the operands of a method are where its temporaries have the classes of `row`.
+#[derive(Drop)]
+struct Typing<'a> {
+    method: &'a Method,
+    row: &'a ArrayVec<u8, 8>,
+}
+
+impl Typing<'_> {
+    fn class_of(&self, operand: Operand) -> u8
+        ensures { result ≡ operand_class (locals_of (method_of self.now.method.now)) (items_of self.now.row.now) operand }
+    {
+        match operand {
+            Operand::Local(n) => declared_class(self.method.class, &self.method.arguments, n),
+            Operand::Temporary(n) => self.row.get_or(n as usize, 0),
+            Operand::Constant(_) => INT,
+        }
     }
-    Ok(after)
-}
 
-// The row as it is, where the operand's class fits the wanted one.
-fn operand_fits<T: ClassTable>(
-    table: &T,
-    method: &Method,
-    row: &ArrayVec<u8, 8>,
-    operand: Operand,
-    wanted: u8,
-    misfit: Misfit,
-) -> Result<ArrayVec<u8, 8>, Misfit>
-    ensures { answered items_of result ≡ then (demand (fits (T.listed table.now) (operand_class (locals_of (method_of method.now)) (items_of row.now) operand) wanted) misfit) (λ _. Ok (items_of row.now)) }
-{
-    demand(
-        table.fits(operand_class(method, row, operand), wanted),
-        misfit,
-    )?;
-    Ok(*row)
-}
+    fn classes_of(&self, operands: &ArrayVec<Operand, 7>) -> ArrayVec<u8, 7>
+        ensures { items_of result ≡ map (operand_class (locals_of (method_of self.now.method.now)) (items_of self.now.row.now)) (items_of operands.now) }
+    {
+        let mut classes = ArrayVec::new(0);
+        for operand in operands.as_slice() {
+            let _ = classes.push(self.class_of(*operand));
+        }
+        classes
+    }
 
-// The result class of the row that an invocation calls.
-fn result_class<T: ClassTable>(
-    table: &T,
-    entries: &[Entry],
-    method: &Method,
-    row: &ArrayVec<u8, 8>,
-    receiver: Operand,
-    name: u8,
-    arguments: &ArrayVec<Operand, 7>,
-) -> Result<u8, Misfit>
-    ensures { result ≡ then (callee (T.listed table.now) (map entry_of entries.now) (operand_class (locals_of (method_of method.now)) (items_of row.now) receiver) name (map (operand_class (locals_of (method_of method.now)) (items_of row.now)) (items_of arguments.now))) (λ f. Ok f.entry.result) }
-{
-    let given = operand_classes(method, row, arguments);
-    let class = operand_class(method, row, receiver);
-    let called = callee(table, entries, class, name, given.as_slice())?;
-    Ok(entries[called].result)
-}
+    // The row as it is, where the operand's class fits the wanted one.
+    fn tested<T: ClassTable>(
+        &self,
+        table: &T,
+        operand: Operand,
+        wanted: u8,
+        misfit: Misfit,
+    ) -> Result<ArrayVec<u8, 8>, Misfit>
+        ensures { answered items_of result ≡ then (demand (fits (T.listed table.now) (operand_class (locals_of (method_of self.now.method.now)) (items_of self.now.row.now) operand) wanted) misfit) (λ _. Ok (items_of self.now.row.now)) }
+    {
+        demand(table.fits(self.class_of(operand), wanted), misfit)?;
+        Ok(*self.row)
+    }
 
-// An operation's own tests where the temporaries have the classes of `row`, and the row behind it.
-pub fn own_tests<T: ClassTable>(
-    table: &T,
-    entries: &[Entry],
-    method: &Method,
-    row: &ArrayVec<u8, 8>,
-    operation: &Operation,
-) -> Result<ArrayVec<u8, 8>, Misfit>
-    ensures { answered items_of result ≡ own_tests (T.listed table.now) (map entry_of entries.now) (method_of method.now) (items_of row.now) (op_of operation.now) }
-{
-    match operation {
-        Operation::Return(value) => operand_fits(
+    // The row after a result of that class was put into its place.
+    fn put_into<T: ClassTable>(
+        &self,
+        table: &T,
+        into: Destination,
+        class: u8,
+    ) -> Result<ArrayVec<u8, 8>, Misfit>
+        ensures { answered items_of result ≡ put_into (T.listed table.now) (locals_of (method_of self.now.method.now)) (items_of self.now.row.now) into class }
+    {
+        may_hold(
             table,
-            method,
-            row,
-            *value,
-            method.result,
-            Misfit::ResultClass,
-        ),
-        Operation::Jump(_) => Ok(*row),
-        Operation::JumpIf(condition, _) => {
-            operand_fits(table, method, row, *condition, BOOL, Misfit::Condition)
-        }
-        Operation::JumpList(selector, _) => {
-            operand_fits(table, method, row, *selector, INT, Misfit::Condition)
-        }
-        Operation::Invoke {
+            self.method.class,
+            &self.method.arguments,
             into,
-            receiver,
-            name,
-            arguments,
-        } => {
-            let class = result_class(table, entries, method, row, *receiver, *name, arguments)?;
-            put_into(table, method, row, *into, class)
+            class,
+        )?;
+        let mut after = *self.row;
+        if let Destination::Temporary(n) = into {
+            after.set(n as usize, class);
+        }
+        Ok(after)
+    }
+}
+
+impl<T: ClassTable> Env<'_, T> {
+    // The number of the row that a name means on a receiver of a class, with arguments of the given classes.
+    pub fn callee(&self, class: u8, name: u8, given: &[u8]) -> Result<usize, Misfit>
+        ensures value { result ≡ answered (λ f. f.number) (callee (T.listed self.now.table.now) (map entry_of self.now.entries.now) class name given.now) }
+        ensures within { IfOk result (λ k. k < length self.now.entries.now) }
+    {
+        let row = self.lookup(class, name).ok_or(Misfit::NoRow)?;
+        taking(self.table, &self.entries[row], given)?;
+        Ok(row)
+    }
+
+    // The result class of the row that an invocation calls.
+    fn result_class(
+        &self,
+        typing: &Typing<'_>,
+        receiver: Operand,
+        name: u8,
+        arguments: &ArrayVec<Operand, 7>,
+    ) -> Result<u8, Misfit>
+        ensures { result ≡ then (callee (T.listed self.now.table.now) (map entry_of self.now.entries.now) (operand_class (locals_of (method_of typing.now.method.now)) (items_of typing.now.row.now) receiver) name (map (operand_class (locals_of (method_of typing.now.method.now)) (items_of typing.now.row.now)) (items_of arguments.now))) (λ f. Ok f.entry.result) }
+    {
+        let given = typing.classes_of(arguments);
+        let class = typing.class_of(receiver);
+        let called = self.callee(class, name, given.as_slice())?;
+        Ok(self.entries[called].result)
+    }
+
+    // An operation's own tests where the temporaries have the classes of `row`, and the row behind it.
+    pub fn own_tests(
+        &self,
+        method: &Method,
+        row: &ArrayVec<u8, 8>,
+        operation: &Operation,
+    ) -> Result<ArrayVec<u8, 8>, Misfit>
+        ensures { answered items_of result ≡ own_tests (T.listed self.now.table.now) (map entry_of self.now.entries.now) (method_of method.now) (items_of row.now) (op_of operation.now) }
+    {
+        let typing = Typing { method, row };
+        match operation {
+            Operation::Return(value) => {
+                typing.tested(self.table, *value, method.result, Misfit::ResultClass)
+            }
+            Operation::Jump(_) => Ok(*row),
+            Operation::JumpIf(condition, _) => {
+                typing.tested(self.table, *condition, BOOL, Misfit::Condition)
+            }
+            Operation::JumpList(selector, _) => {
+                typing.tested(self.table, *selector, INT, Misfit::Condition)
+            }
+            Operation::Invoke {
+                into,
+                receiver,
+                name,
+                arguments,
+            } => {
+                let class = self.result_class(&typing, *receiver, *name, arguments)?;
+                typing.put_into(self.table, *into, class)
+            }
         }
     }
 }

@@ -1,7 +1,7 @@
+use Rattle.std.proofs.Common.{rules, tests}
+use Rattle.semantics.specs.Items.{items_of}
 use Rattle.filler.proofs.Joining.{differ_by}
 use Rattle.filler.proofs.rows.differs.Goals as goal
 
-pub returns-in-Some : goal.returns-in-Some
-returns-in-Some c =
-    differ_by c.args.old c.in-Some.old c.as_slice.result.now c.as_slice-in-Some.result.now _ c.ne.result
-    c.in-Some.is c.as_slice.ensures c.as_slice-in-Some.ensures c.ne.ensures
+pub returns : goal.returns
+returns c = differ_by c.args.old (items_of c.args.new.now) c.is_none_or.result _ (λ v p. search (rules, tests)) c.is_none_or.ensures

@@ -8,5 +8,5 @@ use Rattle.filler.proofs.sweep.sweep_points.Given as goal
 
 abbrev pub invariant-loop-point : goal.invariant-loop-point
 invariant-loop-point g l =
-    sweep_from (g.T.ClassTable.listed l.table) (map entry_of l.entries) (method_of l.method) l.point (row_of l.current) (sweep_meaning l.sweep) (map op_of (drop l.point l.code))
-    ≡ sweep_of (g.T.ClassTable.listed l.table) (map entry_of l.entries) (method_of l.method) (table_of l.initial.sweep.table)
+    sweep_from (g.T.ClassTable.listed l.env.table.now) (map entry_of l.env.entries.now) (method_of l.method) l.point (row_of l.current) (sweep_meaning l.sweep) (map op_of (drop l.point l.code))
+    ≡ sweep_of (g.T.ClassTable.listed l.env.table.now) (map entry_of l.env.entries.now) (method_of l.method) (table_of l.initial.sweep.table)

@@ -1,9 +1,6 @@
-use Rattle.std.proofs.Common.{◌∙◌}
-use Rattle.verifier.proofs.LabelRows.{row_of, row_past}
+use Rattle.std.proofs.Common.{rules}
+use Rattle.verifier.proofs.LabelRows.{row_got}
 use Rattle.verifier.proofs.labels.label_row.Goals as goal
 
-pub returns-then-at-labels : goal.returns-then-at-labels
-returns-then-at-labels c = row_of c.args.labels.now c.args.label _ c.if-at-labels.true
-
-pub returns-else-at-labels : goal.returns-else-at-labels
-returns-else-at-labels c = c.new.ensures ∙ row_past c.args.labels.now c.args.label c.if-at-labels.false
+pub returns : goal.returns
+returns c = row_got c.args.labels.now c.args.label c.get-label.result c.map_or_else.result _ _ (λ p. search rules) (λ y q. search rules) c.get-label.ensures.lookup c.map_or_else.ensures

@@ -1,20 +1,24 @@
-use Rattle.std.proofs.Common.{◌+◌, drop, Ok, Err, ◌∙◌}
-use Rattle.semantics.specs.Tests.{arguments_fit}
-use Rattle.verifier.proofs.Callees.{argument_step}
-use Rattle.semantics.proofs.Walks.{exits, walk_end}
+use Rattle.std.proofs.Common.{ℕ, not, Some, None, rules, tests, ◌∙◌}
+use Rattle.std.proofs.lemmas.Iterator.{YieldsList-from_slice, YieldsList-from_zip}
+use Rattle.std.proofs.lemmas.Iterator.Adapters.{position_from-zero}
+use Rattle.std.proofs.lemmas.Iterator.Search.{position_from_yields_List}
+use Rattle.std.specs.List.{zip}
+use Rattle.semantics.specs.Tree.{fits}
+use Rattle.verifier.proofs.FirstFaults.{first_argument}
 use Rattle.verifier.proofs.tests.arguments_fit.Goals as goal
 
-pub returns-in_err-demand : goal.returns-in_err-demand
-returns-in_err-demand g c =
-    exits c.from_residual.result _ c.from_residual.ensures.1
-    ∙ argument_step (g.T.ClassTable.listed c.args.table.now) c.loop-i.i c.args.given.now c.args.declared.now c.fits.result (Err c.in_err-demand.field-0.0) _
-    c.loop-i-test.true c.requires.0 c.fits.ensures c.in_err-demand.ensures c.loop-i.invariant
+pub returns-in-Some : goal.returns-in-Some
+returns-in-Some g c =
+    let ps = g.T.ClassTable.listed c.args.table.now in
+    let faulty = λ (z : ℕ × ℕ). not (fits ps z.0 z.1) in
+    first_argument ps c.args.given.now c.args.declared.now (Some c.in-Some.i)
+    (position_from_yields_List faulty c.position.new.self _ _ c.in-Some.ensures.ran (YieldsList-from_zip (YieldsList-from_slice c.args.given.now cc) (YieldsList-from_slice c.args.declared.now cc)) (λ x b q k. search (rules, tests))
+    ∙ position_from-zero faulty (zip c.args.given.now c.args.declared.now))
 
-pub loop-i-preserved : goal.loop-i-preserved
-loop-i-preserved g c =
-    argument_step (g.T.ClassTable.listed c.args.table.now) c.loop-i.i c.args.given.now c.args.declared.now c.fits.result (Ok tt) _
-    c.loop-i-test.true c.requires.0 c.fits.ensures c.in_ok-demand.ensures c.loop-i.invariant
-
-pub returns : goal.returns
-returns g c =
-    walk_end (λ l. arguments_fit (g.T.ClassTable.listed c.args.table.now) (3 + c.loop-i.i) l (drop c.loop-i.i c.args.declared.now)) c.args.given.now c.loop-i.i _ c.loop-i-test.false c.loop-i.invariant
+pub returns-in-None : goal.returns-in-None
+returns-in-None g c =
+    let ps = g.T.ClassTable.listed c.args.table.now in
+    let faulty = λ (z : ℕ × ℕ). not (fits ps z.0 z.1) in
+    first_argument ps c.args.given.now c.args.declared.now None
+    (position_from_yields_List faulty c.position.new.self _ _ c.in-None.ensures.ran (YieldsList-from_zip (YieldsList-from_slice c.args.given.now cc) (YieldsList-from_slice c.args.declared.now cc)) (λ x b q k. search (rules, tests))
+    ∙ position_from-zero faulty (zip c.args.given.now c.args.declared.now))

@@ -1,8 +1,0 @@
-use Rattle.std.proofs.Common.{◌≡◌, map, take}
-use Rattle.semantics.specs.Items.{items_of}
-use Rattle.semantics.specs.Methods.{method_of}
-use Rattle.semantics.specs.Tests.{operand_class, locals_of}
-use Rattle.verifier.proofs.tests.operand_classes.Given as goal
-
-abbrev pub invariant-loop-operand : goal.invariant-loop-operand
-invariant-loop-operand l = items_of l.classes ≡ map (operand_class (locals_of (method_of l.method)) (items_of l.row)) (take l.operand-index l.operand-items)
