@@ -6,10 +6,6 @@ use Rattle.semantics.specs.Values.{Said, mapped, appended, list_on}
 use Rattle.text.specs.Parts.{first, rest}
 
 -- the next part is the first of those that are left
-pub next_is : (v : Piece) (L : List Piece) → Some v ≡ first L → L ≡ v ∷ rest L
-next_is v [] e = let z : ◌≡◌ {A = ℕ} 0 1 = cc in absurd (omega arith)
-next_is v (w ∷ ws) e = let k : v ≡ w = cc in ap (λ x. x ∷ ws) (sym k)
-
 pub turn : {X : Type 0} (says : Piece → Said X) (acc acc' all : Said (List X)) (item : Said X) (v : Piece) (L L' : List Piece) → L ≡ v ∷ L' → item ≡ says v → acc' ≡ appended acc item → list_on says acc L ≡ all → list_on says acc' L' ≡ all
 turn says acc acc' all item v L L' l i a e = ap (λ x. list_on says x L') (a ∙ ap (appended acc) i) ∙ ap (list_on says acc) (sym l) ∙ e
 

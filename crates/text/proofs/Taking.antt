@@ -1,13 +1,13 @@
 -- Values whose parts are taken one after the other.
-use Rattle.std.proofs.Common.{◌≡◌, ℕ, ◌<◌, ◌≤◌, List, [], ◌∷◌, length, Ok, Err, sym, refl, ap, ◌∙◌, arith}
+use Rattle.std.proofs.Common.{◌≡◌, ℕ, ◌<◌, ◌≤◌, List, [], ◌∷◌, length, get_or, Ok, Err, sym, refl, ap, ◌∙◌, arith}
 use Rattle.std.proofs.lemmas.Bool.{lt-leb, le-leb, cond-true, cond-false}
 use Rattle.semantics.specs.declared.refusal.Fault.{Fault}
 use Rattle.semantics.specs.declared.refusal.Fault.TheVariants.{Malformed, OutOfRange}
 use Rattle.semantics.specs.declared.operation.Operand.{Operand}
 use Rattle.semantics.specs.declared.operation.Destination.{Destination}
 use Rattle.semantics.specs.Methods.{Op, return, jump, jump_if, jump_list}
-use Rattle.semantics.specs.Pieces.{Piece}
-use Rattle.semantics.specs.Values.{Said, mapped, both, list_on, list_of, number_at, operand_at, destination_at, return_of, jump_of, jump_if_of, jump_list_of, invocation, invoke_of, label, row_at, label_parts}
+use Rattle.semantics.specs.Pieces.{Piece, parted}
+use Rattle.semantics.specs.Values.{Said, mapped, both, list_on, list_of, number_at, operand_at, destination_at, return_of, jump_of, jump_if_of, jump_list_of, invocation, invoke_of, label, row_at, label_parts, lettered, operation_of, operation_at}
 use Rattle.text.specs.Parts.{taken, rest, ended}
 
 -- a part that is due, and then what is said of it and of the parts behind it
@@ -42,11 +42,6 @@ return_by [] = refl
 return_by (a ∷ []) = refl
 return_by (a ∷ b ∷ vs) = refl
 
-pub jump_by : (L : List Piece) → jump_of L ≡ with_part L (λ n L'. at_end L' (mapped jump (number_at 63 n)))
-jump_by [] = refl
-jump_by (a ∷ []) = refl
-jump_by (a ∷ b ∷ vs) = refl
-
 pub jump_if_by : (L : List Piece) → jump_if_of L ≡ with_part L (λ a L'. with_part L' (λ n L''. at_end L'' (mapped (λ x. jump_if x.0 x.1) (both (operand_at a) (number_at 63 n)))))
 jump_if_by [] = refl
 jump_if_by (a ∷ []) = refl
@@ -74,6 +69,17 @@ label_by n [] = refl
 label_by n (v ∷ []) = refl
 label_by n (v ∷ w ∷ []) = refl
 label_by n (v ∷ w ∷ x ∷ xs) = refl
+
+pub operation_by : (v u : Piece) (L L' : List Piece) → L ≡ parted 32 v.place v.held → Ok u ≡ taken L → L' ≡ rest L → length u.held ≡ 1 → operation_at v ≡ lettered (get_or u.held 0 0 ∷ []) L'
+operation_by v u L L' l e r n = ap operation_of (sym l) ∙ by L e r ∙ ap (λ s. lettered s L') (one u.held n)
+  where
+    by : (L : List Piece) → Ok u ≡ taken L → L' ≡ rest L → operation_of L ≡ lettered u.held L'
+    by [] e r = let z : ◌≡◌ {A = ℕ} 0 1 = cc in absurd (omega arith)
+    by (w ∷ ws) e r = let k : w ≡ u = cc in λ i. lettered (k i).held (sym r i)
+    one : (s : List ℕ) → length s ≡ 1 → s ≡ get_or s 0 0 ∷ []
+    one [] n = absurd (omega arith)
+    one (c ∷ []) n = refl
+    one (c ∷ d ∷ ds) n = absurd (omega arith)
 
 -- a malformed part behind any other
 pub both_malformed : {X Y : Type 0} (x : Said X) (y : Said Y) → y ≡ Err Malformed → both x y ≡ Err Malformed

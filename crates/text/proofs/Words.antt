@@ -1,64 +1,81 @@
 -- The words that lines begin with, and the lines themselves.
-use Rattle.std.proofs.Common.{◌≡◌, ℕ, suc, ◌+◌, ◌-◌, ◌<◌, ◌≤◌, Bool, true, false, ◌&&◌, eqb, ltb, List, [], ◌∷◌, length, get_or, take, drop, Ok, Err, sym, refl, ap, ◌∙◌, ⊎_elim, arith}
-use Rattle.std.proofs.lemmas.List.{at_drop_more, at_drop_all, take_rest}
-use Rattle.std.proofs.lemmas.Slice.{between_is}
-use Rattle.std.proofs.lemmas.Bool.{and_left, and_right, and_from, and_parts, eq-eqb, ne_eqb, eqb-true, lt-ltb, le-ltb, cases_Bool, cond-true, cond-false, false≢true}
+use Rattle.std.proofs.Common.{◌≡◌, ℕ, suc, ◌+◌, ◌<◌, Bool, true, false, ◌&&◌, cond, eqb, ltb, List, [], ◌∷◌, length, take, drop, Option, Some, None, Ok, Err, Result, IsErrAnd, sym, refl, ap, ◌∙◌, subst, ⊎_elim, arith}
+use Rattle.std.specs.List.{starts_with}
+use Rattle.std.specs.Option.{ok_or}
+use Rattle.std.specs.Result.{MatchResult}
+use Rattle.std.proofs.lemmas.Result.{err_from_is_err_and}
+use Rattle.std.proofs.lemmas.Cmp.{nat_list_eq_equiv}
+use lib.Pointwise.{pointwise}
+use Rattle.std.proofs.lemmas.Bool.{and_left, and_right, and_parts, eqb-true, ne_eqb, cases_Bool, cond-true, cond-false, false≢true}
+use Rattle.semantics.specs.declared.refusal.Fault.{Fault}
 use Rattle.semantics.specs.declared.refusal.Refusal.{Refusal}
 use Rattle.semantics.specs.declared.refusal.Refusal.TheVariants.{Line}
 use Rattle.semantics.specs.Pieces.{Piece, piece, up_to}
-use Rattle.semantics.specs.Reading.{read, so, begins, is_line, behind, said_in, line}
+use Rattle.semantics.specs.Reading.{read, so, begins, is_line, value_in, behind, refused, said_in, line}
 use Rattle.semantics.specs.Values.{Said, mapped}
-use Rattle.text.specs.Lines.{line_of, read_as, itself}
+use Rattle.text.specs.declared.part.Part.{Part}
+use Rattle.text.specs.Lines.{piece_read, line_of, GivesLine, read_as, itself}
+use Rattle.text.specs.Parts.{piece_of, piece_in, cut, behind_word}
 
--- the turns of `begins_with`
-pub begins_short : (w s : List ℕ) → length s < length w → false ≡ begins w s
-begins_short [] s h = absurd (omega arith)
-begins_short (w ∷ ws) [] h = refl
-begins_short (w ∷ ws) (c ∷ cs) h = sym (and_right _ _ (sym (begins_short ws cs (omega arith))))
+-- a word in front
+begins_by : (w s : List ℕ) → pointwise eqb (take (length w) s) w ≡ begins w s
+begins_by [] s = refl
+begins_by (w ∷ ws) [] = refl
+begins_by (w ∷ ws) (c ∷ cs) = ap (λ b. eqb c w && b) (begins_by ws cs)
 
-begins_more : (w s : List ℕ) (i : ℕ) → i < length w → i < length s → begins (drop i w) (drop i s) ≡ (eqb (get_or s i 0) (get_or w i 0) && begins (drop (i + 1) w) (drop (i + 1) s))
-begins_more w s i h k =
-    at_drop_more (λ x. begins x (drop i s)) w i 0 h ∙ at_drop_more (λ x. begins (get_or w i 0 ∷ drop (i + 1) w) x) s i 0 k
+pub starts_begins : (w s : List ℕ) → starts_with eqb s w ≡ begins w s
+starts_begins w s = nat_list_eq_equiv.symm w (take (length w) s) ∙ begins_by w s
 
-pub begins_stop : (w s : List ℕ) (i : ℕ) (b : Bool) → i < length w → i < length s → (get_or s i 0 ≡ get_or w i 0 → ⊥) → begins (drop i w) (drop i s) ≡ b → false ≡ b
-begins_stop w s i b h k e inv = sym (begins_more w s i h k ∙ and_left _ _ (ne_eqb _ _ e)) ∙ inv
+pub word_none : (w : List ℕ) (v : Piece) → pointwise eqb (take (length w) v.held) w ≡ false → None ≡ behind_word w v
+word_none w v e = sym (cond-false _ _ _ (sym (begins_by w v.held) ∙ e))
 
-pub begins_go : (w s : List ℕ) (i : ℕ) (b : Bool) → i < length w → i < length s → get_or s i 0 ≡ get_or w i 0 → begins (drop i w) (drop i s) ≡ b → begins (drop (i + 1) w) (drop (i + 1) s) ≡ b
-begins_go w s i b h k e inv =
-    ap (λ t. t && begins (drop (i + 1) w) (drop (i + 1) s)) (sym (eq-eqb _ _ e)) ∙ sym (begins_more w s i h k) ∙ inv
+pub word_some : (w : List ℕ) (v : Piece) (s : List ℕ) → pointwise eqb (take (length w) v.held) w ≡ true → s ≡ drop (length w) v.held → Some (piece (v.place + length w) s) ≡ behind_word w v
+word_some w v s e is = ap (λ x. Some (piece (v.place + length w) x)) is ∙ sym (cond-true _ _ _ (sym (begins_by w v.held) ∙ e))
 
-pub begins_all : (w s : List ℕ) (i : ℕ) (b : Bool) → length w ≤ i → begins (drop i w) (drop i s) ≡ b → true ≡ b
-begins_all w s i b h inv = sym (at_drop_all (λ x. begins x (drop i s)) w i h) ∙ inv
-
--- a word without byte 10 lies within the first line
-pub word_within : (w s : List ℕ) → up_to 10 w ≡ length w → begins w s ≡ true → length w ≤ up_to 10 s
-word_within [] s h e = omega arith
-word_within (w ∷ ws) [] h e = absurd (false≢true e)
-word_within (w ∷ ws) (c ∷ cs) h e = ⊎_elim
+-- a word without byte 10 stands in front of a text if it does in front of the first line
+begins_line : (w s : List ℕ) → up_to 10 w ≡ length w → begins w (take (up_to 10 s) s) ≡ begins w s
+begins_line [] s h = refl
+begins_line (w ∷ ws) [] h = refl
+begins_line (w ∷ ws) (c ∷ cs) h = ⊎_elim
     (λ t. absurd (omega (arith, cond-true (eqb w 10) 0 (suc (up_to 10 ws)) t)))
     (λ f.
-    let p = and_parts (eqb c w) (begins ws cs) e in
-    let g : eqb c 10 ≡ false = ap (λ x. eqb x 10) (eqb-true c w p.0) ∙ f in
-    let u = cond-false (eqb w 10) 0 (suc (up_to 10 ws)) f in
-    let v = cond-false (eqb c 10) 0 (suc (up_to 10 cs)) g in
-    let r = word_within ws cs (omega arith) p.1 in
-    omega arith)
+    let u : suc (up_to 10 ws) ≡ suc (length ws) = sym (cond-false (eqb w 10) 0 (suc (up_to 10 ws)) f) ∙ h in
+    ⊎_elim
+    (λ t.
+    let other : eqb c w ≡ false = ap (λ x. eqb x w) (eqb-true c 10 t) ∙ ten_other w f in
+    ap (λ n. begins (w ∷ ws) (take n (c ∷ cs))) (cond-true (eqb c 10) 0 (suc (up_to 10 cs)) t) ∙ sym (and_left (eqb c w) (begins ws cs) other))
+    (λ g.
+    ap (λ n. begins (w ∷ ws) (take n (c ∷ cs))) (cond-false (eqb c 10) 0 (suc (up_to 10 cs)) g)
+    ∙ ap (λ b. eqb c w && b) (begins_line ws cs (omega arith)))
+    (cases_Bool (eqb c 10)))
     (cases_Bool (eqb w 10))
+  where
+    ten_other : (w : ℕ) → eqb w 10 ≡ false → eqb 10 w ≡ false
+    ten_other w f = ne_eqb 10 w (λ e. false≢true (sym f ∙ ap (λ x. eqb x 10) (sym e)))
 
--- the ways of `line`
-pub line_found : (w s : List ℕ) (p end : ℕ) → end ≡ up_to 10 s → end ≤ length s → (end ≡ length s → ⊥) → true ≡ begins w s → Ok (piece (p + length w) (take (end - length w) (drop (length w) s))) ≡ line_of w (piece p s)
-line_found w s p end is within more word =
-    let l : is_line w s ≡ true = and_from _ _ (lt-ltb (up_to 10 s) (length s) (omega arith)) (sym word) in
-    ap (λ x. Ok (piece (p + length w) x)) (between_is s (length w) end ∙ ap (λ n. drop (length w) (take n s)) is) ∙ sym (cond-true _ _ _ l)
+-- the value of a line, by the cut behind it and the word in front of it
+line_cut : (w : List ℕ) (v u l : Piece) → up_to 10 w ≡ length w → Some (u, l) ≡ cut 10 v → ok_or (behind_word w u) (Line v.place) ≡ line_of w v
+line_cut w v u l h e = ⊎_elim
+    (λ t.
+    let k : Some (u, l) ≡ Some (piece v.place (take (up_to 10 v.held) v.held), behind v) = e ∙ cond-true _ _ _ t in
+    let p : (u, l) ≡ (piece v.place (take (up_to 10 v.held) v.held), behind v) = cc in
+    ap (λ (x : Piece × Piece). ok_or (behind_word w x.0) (Line v.place)) p
+    ∙ or_cond (begins w (take (up_to 10 v.held) v.held)) (value_in w v) (Line v.place)
+    ∙ ap (λ b. cond b (Ok (value_in w v)) (Err (Line v.place))) (begins_line w v.held h)
+    ∙ ap (λ b. cond (b && begins w v.held) (Ok (value_in w v)) (Err (Line v.place))) (sym t))
+    (λ f. let k : Some (u, l) ≡ None = e ∙ cond-false _ _ _ f in let z : ◌≡◌ {A = ℕ} 0 1 = cc in absurd (omega arith))
+    (cases_Bool (ltb (up_to 10 v.held) (length v.held)))
+  where
+    or_cond : (b : Bool) (x : Piece) (e : Refusal) → ok_or (cond b (Some x) None) e ≡ cond b (Ok x) (Err e)
+    or_cond true x e = refl
+    or_cond false x e = refl
 
-pub line_behind : (s : List ℕ) (p end : ℕ) → end ≡ up_to 10 s → piece (p + (end + 1)) (take (length s - (end + 1)) (drop (end + 1) s)) ≡ behind (piece p s)
-line_behind s p end is = ap (piece (p + (end + 1))) (take_rest s (end + 1)) ∙ ap (λ n. piece (p + (n + 1)) (drop (n + 1) s)) is
+read_or : (r : Option Part) (e : Refusal) → piece_read (ok_or r e) ≡ ok_or (piece_in r) e
+read_or (Some v) e = refl
+read_or None e = refl
 
-pub line_unended : (w s : List ℕ) (p end : ℕ) → end ≡ up_to 10 s → end ≡ length s → Err (Line p) ≡ line_of w (piece p s)
-line_unended w s p end is e = sym (cond-false _ _ _ (and_left _ _ (le-ltb (up_to 10 s) (length s) (omega arith))))
-
-pub line_other : (w s : List ℕ) (p : ℕ) → false ≡ begins w s → Err (Line p) ≡ line_of w (piece p s)
-line_other w s p e = sym (cond-false _ _ _ (and_right (ltb (up_to 10 s) (length s)) (begins w s) (sym e)))
+pub line_value : (w : List ℕ) (v u l : Piece) (r : Option Part) (t : Result Part Refusal) → up_to 10 w ≡ length w → Some (u, l) ≡ cut 10 v → piece_in r ≡ behind_word w u → t ≡ ok_or r (Line v.place) → piece_read t ≡ line_of w v
+line_value w v u l r t h e b is = ap piece_read is ∙ read_or r (Line v.place) ∙ ap (λ x. ok_or x (Line v.place)) b ∙ line_cut w v u l h e
 
 -- a line whose value was read, and one that was not found
 line_by : {X : Type 0} (w : List ℕ) (says : Piece → Said X) (v : Piece) → line w says v ≡ so (line_of w v) (λ u. so (said_in u.place (says u)) (λ x. Ok (read x (behind v))))
@@ -71,16 +88,20 @@ said_as : {X Y : Type 0} (f : X → Y) (at : ℕ) (s : Said X) (v : Piece) → r
 said_as f at (Ok x) v = refl
 said_as f at (Err e) v = refl
 
-pub line_said : {X Y : Type 0} (f : X → Y) (w : List ℕ) (says : Piece → Said Y) (u v v' : Piece) (s : Said X) → Ok u ≡ line_of w v → v' ≡ behind v → mapped f s ≡ says u → read_as f (said_in u.place s) v' ≡ line w says v
+line_said : {X Y : Type 0} (f : X → Y) (w : List ℕ) (says : Piece → Said Y) (u v v' : Piece) (s : Said X) → Ok u ≡ line_of w v → v' ≡ behind v → mapped f s ≡ says u → read_as f (said_in u.place s) v' ≡ line w says v
 line_said f w says u v v' s found left value =
     said_as f u.place s v'
     ∙ (λ i. so (said_in u.place (value i)) (λ x. Ok (read x (left i))))
     ∙ ap (λ r. so r (λ (q : Piece). so (said_in q.place (says q)) (λ x. Ok (read x (behind v))))) found
     ∙ sym (line_by w says v)
 
-pub line_refused : {Y : Type 0} (w : List ℕ) (says : Piece → Said Y) (v : Piece) (e : Refusal) → Err e ≡ line_of w v → Err e ≡ line w says v
+line_refused : {Y : Type 0} (w : List ℕ) (says : Piece → Said Y) (v : Piece) (e : Refusal) → Err e ≡ line_of w v → Err e ≡ line w says v
 line_refused w says v e found = ap (λ r. so r (λ (q : Piece). so (said_in q.place (says q)) (λ x. Ok (read x (behind v))))) found ∙ sym (line_by w says v)
 
-pub mapped_itself : {X : Type 0} (s : Said X) → mapped itself s ≡ s
-mapped_itself (Ok x) = refl
-mapped_itself (Err e) = refl
+-- the line that a reader gives
+pub said_by : {X : Type 0} (Told : Fault → Refusal → Type 0) (at : ℕ) (s : Said X) (r : Result X Refusal) → MatchResult s (λ x. r ≡ Ok x) (λ f. IsErrAnd r (Told f)) → ((f : Fault) (d : Refusal) → Told f d → d ≡ refused at f) → r ≡ said_in at s
+said_by Told at (Ok x) r h t = h
+said_by Told at (Err f) r h t = let p = err_from_is_err_and r h in p.1 ∙ ap Err (t f p.0 p.2)
+
+pub given_line : {X : Type 0} (Gives : Part → Said X → Type 0) (w : List ℕ) (v v' : Piece) (p : Part) (s : Said X) (r : Result X Refusal) → Ok (piece_of p) ≡ line_of w v → v' ≡ behind v → Gives p s → r ≡ said_in p.at s → GivesLine Gives w v r v'
+given_line {X} Gives w v v' p s r found left gives is = subst (λ l. MatchResult l (λ u. (p : Part) × (s : Said X) × (piece_of p ≡ u) × Gives p s × (r ≡ said_in u.place s) × (v' ≡ behind v)) (λ e. r ≡ Err e)) found (p, s, refl, gives, is, left)

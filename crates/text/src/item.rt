@@ -2,7 +2,7 @@
 ghost use Rattle.std.specs.Prelude.{◌≡◌};
 ghost use Rattle.semantics.specs.Pieces.{Piece};
 ghost use Rattle.semantics.specs.Values.{Said, number_at, operand_at, destination_at};
-ghost use Rattle.text.specs.Parts.{piece_of, Placed};
+ghost use Rattle.text.specs.Parts.{piece_of};
 
 use crate::number::{constant, number};
 use crate::part::Part;
@@ -17,7 +17,6 @@ pub trait Item: Copy {
     ghost says: { Piece → Said Self };
 
     fn read(part: Part<'_>) -> Result<Self, Fault>
-        requires { Placed part }
         ensures { result ≡ says (piece_of part.entry) };
 }
 
@@ -34,20 +33,12 @@ impl Item for Operand {
     ghost says = { operand_at };
 
     fn read(part: Part<'_>) -> Result<Operand, Fault> {
-        match part.bytes.split_first() {
-            None => Err(Fault::Malformed),
-            Some((first, rest)) => {
-                let behind = Part {
-                    at: part.at + 1,
-                    bytes: rest,
-                };
-                match *first as char {
-                    'l' => Ok(Operand::Local(number(behind, MAX_NUMBER)?)),
-                    't' => Ok(Operand::Temporary(number(behind, MAX_NUMBER)?)),
-                    '#' => Ok(Operand::Constant(constant(behind)?)),
-                    _ => Err(Fault::Malformed),
-                }
-            }
+        let (sign, behind) = part.split_first().ok_or(Fault::Malformed)?;
+        match sign {
+            b'l' => Ok(Operand::Local(number(behind, MAX_NUMBER)?)),
+            b't' => Ok(Operand::Temporary(number(behind, MAX_NUMBER)?)),
+            b'#' => Ok(Operand::Constant(constant(behind)?)),
+            _ => Err(Fault::Malformed),
         }
     }
 }
@@ -56,19 +47,11 @@ impl Item for Destination {
     ghost says = { destination_at };
 
     fn read(part: Part<'_>) -> Result<Destination, Fault> {
-        match part.bytes.split_first() {
-            None => Err(Fault::Malformed),
-            Some((first, rest)) => {
-                let behind = Part {
-                    at: part.at + 1,
-                    bytes: rest,
-                };
-                match *first as char {
-                    'l' => Ok(Destination::Local(number(behind, MAX_NUMBER)?)),
-                    't' => Ok(Destination::Temporary(number(behind, MAX_NUMBER)?)),
-                    _ => Err(Fault::Malformed),
-                }
-            }
+        let (sign, behind) = part.split_first().ok_or(Fault::Malformed)?;
+        match sign {
+            b'l' => Ok(Destination::Local(number(behind, MAX_NUMBER)?)),
+            b't' => Ok(Destination::Temporary(number(behind, MAX_NUMBER)?)),
+            _ => Err(Fault::Malformed),
         }
     }
 }

@@ -3,7 +3,7 @@ ghost use Rattle.std.specs.Prelude.{◌≡◌, ◌≤◌};
 ghost use Rattle.semantics.specs.Items.{items_of};
 ghost use Rattle.semantics.specs.Methods.{label_of};
 ghost use Rattle.semantics.specs.Values.{mapped, arguments_at, row_at, label_at};
-ghost use Rattle.text.specs.Parts.{piece_of, Placed};
+ghost use Rattle.text.specs.Parts.{piece_of};
 
 use crate::item::Item;
 use crate::list::{both, list};
@@ -16,11 +16,10 @@ const MAX_ARGUMENTS: usize = 7;
 
 // The argument classes that the value of an args line says.
 pub fn read_arguments(value: Part<'_>) -> Result<ArrayVec<u8, 7>, Fault>
-    requires { Placed value }
     ensures { mapped items_of result ≡ arguments_at (piece_of value.entry) }
 {
     let classes = Parts::or_none(value, b',');
-    if classes.count() > MAX_ARGUMENTS {
+    if classes.len() > MAX_ARGUMENTS {
         return Err(Fault::Malformed);
     }
     list(classes, 0)
@@ -28,11 +27,11 @@ pub fn read_arguments(value: Part<'_>) -> Result<ArrayVec<u8, 7>, Fault>
 
 // A row with one class for each temporary.
 fn read_row(value: Part<'_>, temporaries: u8) -> Result<ArrayVec<u8, 8>, Fault>
-    requires { (Placed value) × (temporaries ≤ 8) }
+    requires { temporaries ≤ 8 }
     ensures { mapped items_of result ≡ row_at temporaries (piece_of value.entry) }
 {
     let classes = Parts::or_none(value, b',');
-    if classes.count() != temporaries as usize {
+    if classes.len() != temporaries as usize {
         return Err(Fault::Malformed);
     }
     list(classes, 0)
@@ -40,12 +39,12 @@ fn read_row(value: Part<'_>, temporaries: u8) -> Result<ArrayVec<u8, 8>, Fault>
 
 // The label that the value of a label line says.
 pub fn read_label(value: Part<'_>, temporaries: u8) -> Result<Label, Fault>
-    requires { (Placed value) × (temporaries ≤ 8) }
+    requires { temporaries ≤ 8 }
     ensures { mapped label_of result ≡ label_at temporaries (piece_of value.entry) }
 {
     let mut parts = Parts::new(value, b':');
-    let point = u8::read(parts.take()?);
-    let row = read_row(parts.take()?, temporaries);
+    let point = u8::read(parts.next_part()?);
+    let row = read_row(parts.next_part()?, temporaries);
     parts.end()?;
     let (point, row) = both(point, row)?;
     Ok(Label { point, row })

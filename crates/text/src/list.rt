@@ -55,9 +55,8 @@ pub fn list<T: Item, const N: usize>(parts: Parts<'_>, filler: T) -> Result<Arra
     requires { length (parts_left parts) ≤ N }
     ensures { mapped items_of result ≡ list_on T.says (Ok []) (parts_left parts.entry) }
 {
-    let mut left = parts;
     let mut list = Ok(ArrayVec::new(filler));
-    while let Some(part) = left.next() {
+    for part in parts {
         list = append(list, T::read(part));
     }
     list

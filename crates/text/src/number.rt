@@ -13,25 +13,14 @@ const MAX_CONSTANT: u32 = 2147483647;
 
 const MAX_BELOW: u32 = 2147483648;
 
-fn all_digits(bytes: &[u8]) -> bool
-    ensures { result ≡ all_ascii_digits bytes.now }
-{
-    for byte in bytes {
-        if !byte.is_ascii_digit() {
-            return false;
-        }
-    }
-    true
-}
-
 // Whether the bytes are digits, with no 0 in front of others.
 fn is_numeral(bytes: &[u8]) -> bool
     ensures { result ≡ is_numeral bytes.now }
 {
     match bytes {
         [] => false,
-        [b'0', rest @ ..] => rest.len() == 0,
-        _ => all_digits(bytes),
+        [b'0', rest @ ..] => rest.is_empty(),
+        _ => bytes.iter().all(|byte| byte.is_ascii_digit()),
     }
 }
 
@@ -42,8 +31,8 @@ fn up_to_max(digits: &[u8], max: u32) -> Option<u32>
 {
     let mut n: u64 = 0;
     for digit in digits {
-        n = 10 * n + (*digit - b'0') as u64;
-        if n > max as u64 {
+        n = 10 * n + u64::from(*digit - b'0');
+        if n > u64::from(max) {
             return None;
         }
     }
@@ -57,10 +46,7 @@ fn numeral(part: Part<'_>, max: u32) -> Result<u32, Fault>
     if !is_numeral(part.bytes) {
         return Err(Fault::Malformed);
     }
-    match up_to_max(part.bytes, max) {
-        Some(n) => Ok(n),
-        None => Err(Fault::OutOfRange { at: part.at }),
-    }
+    up_to_max(part.bytes, max).ok_or(Fault::OutOfRange { at: part.at })
 }
 
 // A number from 0 to `max`.
@@ -68,7 +54,7 @@ pub fn number(part: Part<'_>, max: u8) -> Result<u8, Fault>
     ensures value { result ≡ number_at max (piece_of part.entry) }
     ensures bound { IfOk result (λ n. n ≤ max) }
 {
-    let n = numeral(part, max as u32)?;
+    let n = numeral(part, u32::from(max))?;
     Ok(n as u8)
 }
 
@@ -79,25 +65,19 @@ fn negative(at: usize, digits: &[u8]) -> Result<i32, Fault>
     if !is_numeral(digits) || digits[0] == b'0' {
         return Err(Fault::Malformed);
     }
-    match up_to_max(digits, MAX_BELOW) {
-        Some(n) => Ok((-(n as i64)) as i32),
-        None => Err(Fault::OutOfRange { at }),
-    }
+    let n = up_to_max(digits, MAX_BELOW).ok_or(Fault::OutOfRange { at })?;
+    Ok((-i64::from(n)) as i32)
 }
 
 // A constant from -2^31 to 2^31-1.
 pub fn constant(part: Part<'_>) -> Result<i32, Fault>
     ensures { result ≡ constant_in part.entry.at part.entry.bytes.now }
 {
-    match part.bytes.split_first() {
-        None => Err(Fault::Malformed),
-        Some((first, digits)) => {
-            if *first == b'-' {
-                negative(part.at, digits)
-            } else {
-                let n = numeral(part, MAX_CONSTANT)?;
-                Ok(n as i32)
-            }
+    match part.bytes {
+        [b'-', digits @ ..] => negative(part.at, digits),
+        _ => {
+            let n = numeral(part, MAX_CONSTANT)?;
+            Ok(n as i32)
         }
     }
 }

@@ -2,7 +2,7 @@
 ghost use Rattle.std.specs.Prelude.{◌≡◌, length};
 ghost use Rattle.semantics.specs.Methods.{op_of};
 ghost use Rattle.semantics.specs.Values.{mapped, return_of, jump_of, jump_if_of, jump_list_of, invoke_of, operation_at};
-ghost use Rattle.text.specs.Parts.{piece_of, Placed, parts_left};
+ghost use Rattle.text.specs.Parts.{piece_of, parts_left};
 
 use crate::item::Item;
 use crate::list::{both, list};
@@ -20,7 +20,7 @@ const MAX_NAME: u8 = 255;
 fn read_return(mut parts: Parts<'_>) -> Result<Operation, Fault>
     ensures { mapped op_of result ≡ return_of (parts_left parts.entry) }
 {
-    let value = Operand::read(parts.take()?);
+    let value = Operand::read(parts.next_part()?);
     parts.end()?;
     Ok(Operation::Return(value?))
 }
@@ -28,7 +28,7 @@ fn read_return(mut parts: Parts<'_>) -> Result<Operation, Fault>
 fn read_jump(mut parts: Parts<'_>) -> Result<Operation, Fault>
     ensures { mapped op_of result ≡ jump_of (parts_left parts.entry) }
 {
-    let label = u8::read(parts.take()?);
+    let label = u8::read(parts.next_part()?);
     parts.end()?;
     Ok(Operation::Jump(label?))
 }
@@ -36,8 +36,8 @@ fn read_jump(mut parts: Parts<'_>) -> Result<Operation, Fault>
 fn read_jump_if(mut parts: Parts<'_>) -> Result<Operation, Fault>
     ensures { mapped op_of result ≡ jump_if_of (parts_left parts.entry) }
 {
-    let condition = Operand::read(parts.take()?);
-    let label = u8::read(parts.take()?);
+    let condition = Operand::read(parts.next_part()?);
+    let label = u8::read(parts.next_part()?);
     parts.end()?;
     let (condition, label) = both(condition, label)?;
     Ok(Operation::JumpIf(condition, label))
@@ -46,8 +46,8 @@ fn read_jump_if(mut parts: Parts<'_>) -> Result<Operation, Fault>
 fn read_jump_list(mut parts: Parts<'_>) -> Result<Operation, Fault>
     ensures { mapped op_of result ≡ jump_list_of (parts_left parts.entry) }
 {
-    let selector = Operand::read(parts.take()?);
-    let count = parts.count();
+    let selector = Operand::read(parts.next_part()?);
+    let count = parts.len();
     if count == 0 || count > MAX_LABELS {
         return Err(Fault::Malformed);
     }
@@ -59,10 +59,10 @@ fn read_jump_list(mut parts: Parts<'_>) -> Result<Operation, Fault>
 fn read_invoke(mut parts: Parts<'_>) -> Result<Operation, Fault>
     ensures { mapped op_of result ≡ invoke_of (parts_left parts.entry) }
 {
-    let into = Destination::read(parts.take()?);
-    let receiver = Operand::read(parts.take()?);
-    let name = number(parts.take()?, MAX_NAME);
-    if parts.count() > MAX_ARGUMENTS {
+    let into = Destination::read(parts.next_part()?);
+    let receiver = Operand::read(parts.next_part()?);
+    let name = number(parts.next_part()?, MAX_NAME);
+    if parts.len() > MAX_ARGUMENTS {
         return Err(Fault::Malformed);
     }
     let arguments = list(parts, Operand::Constant(0));
@@ -77,17 +77,16 @@ fn read_invoke(mut parts: Parts<'_>) -> Result<Operation, Fault>
 
 // The operation that the value of an op line says.
 pub fn read_operation(value: Part<'_>) -> Result<Operation, Fault>
-    requires { Placed value }
     ensures { mapped op_of result ≡ operation_at (piece_of value.entry) }
 {
     let mut parts = Parts::new(value, b' ');
-    match parts.take()?.bytes {
-        [letter] => match *letter as char {
-            'R' => read_return(parts),
-            'J' => read_jump(parts),
-            'F' => read_jump_if(parts),
-            'L' => read_jump_list(parts),
-            'V' => read_invoke(parts),
+    match parts.next_part()?.bytes {
+        [letter] => match *letter {
+            b'R' => read_return(parts),
+            b'J' => read_jump(parts),
+            b'F' => read_jump_if(parts),
+            b'L' => read_jump_list(parts),
+            b'V' => read_invoke(parts),
             _ => Err(Fault::Malformed),
         },
         _ => Err(Fault::Malformed),

@@ -8,14 +8,12 @@ pub mod cuts;
 pub struct Part<'a> {
     pub at: usize,
     pub bytes: &'a [u8],
+    ghost placed: { at + length bytes.now < 2 ^ 64 },
 }
 
-// The parts between separators that are still to be handed out; none where there are no more.
+// The parts between separators that are still to be handed out.
 #[derive(Clone, Copy)]
 pub struct Parts<'a> {
-    at: usize,
-    bytes: &'a [u8],
-    more: bool,
+    left: Option<Part<'a>>,
     separator: u8,
-    ghost placed: { at + length bytes.now < 2 ^ 64 },
 }

@@ -7,15 +7,15 @@ use Rattle.text.specs.Parts.{piece_of, parts_left}
 use Rattle.semantics.proofs.Walks.{exits}
 use Rattle.text.proofs.Taking.{at_end, part_ok, end_ok, end_err, label_by, both_mapped, mapped_twice}
 use Rattle.text.proofs.label.read_label.Goals as goal
-use Rattle.text.proofs.label.read_label.Goals.{In_ok-take-2, After-both}
+use Rattle.text.proofs.label.read_label.Goals.{In_ok-next_part-2, After-both}
 
 -- what the parts say, behind two of them
-second : (c : In_ok-take-2) → label_at c.args.temporaries (piece_of c.args.value) ≡ at_end (parts_left c.take-2.new.self) (mapped label (both (number_at 63 (piece_of c.in_ok-take.field-0)) (row_at c.args.temporaries (piece_of c.in_ok-take-2.field-0))))
+second : (c : In_ok-next_part-2) → label_at c.args.temporaries (piece_of c.args.value) ≡ at_end (parts_left c.next_part-2.new.self) (mapped label (both (number_at 63 (piece_of c.in_ok-next_part.field-0)) (row_at c.args.temporaries (piece_of c.in_ok-next_part-2.field-0))))
 second c =
     ap (label_parts c.args.temporaries) (sym c.new-parts.ensures)
     ∙ label_by c.args.temporaries (parts_left c.new-parts.result)
-    ∙ part_ok (piece_of c.in_ok-take.field-0) (parts_left c.new-parts.result) (parts_left c.take.new.self) _ c.in_ok-take.ensures.value c.take.ensures.after
-    ∙ part_ok (piece_of c.in_ok-take-2.field-0) (parts_left c.take.new.self) (parts_left c.take-2.new.self) _ c.in_ok-take-2.ensures.value c.take-2.ensures.after
+    ∙ part_ok (piece_of c.in_ok-next_part.field-0) (parts_left c.new-parts.result) (parts_left c.next_part.new.self) _ c.in_ok-next_part.ensures.value c.next_part.ensures.after
+    ∙ part_ok (piece_of c.in_ok-next_part-2.field-0) (parts_left c.next_part.new.self) (parts_left c.next_part-2.new.self) _ c.in_ok-next_part-2.ensures.value c.next_part-2.ensures.after
 
 -- the same over what was read
 abbrev labelled : ℕ × ArrayVec ℕ 8 → LabelDef
@@ -23,8 +23,8 @@ labelled x = label (x.0, items_of x.1)
 
 third : (c : After-both) → label_at c.args.temporaries (piece_of c.args.value) ≡ mapped labelled c.both.result
 third c =
-    second (goal.at.After-both c).In_ok-take-2
-    ∙ end_ok tt (parts_left c.take-2.new.self) _ c.in_ok-end.ensures
+    second (goal.at.After-both c).In_ok-next_part-2
+    ∙ end_ok tt (parts_left c.next_part-2.new.self) _ c.in_ok-end.ensures
     ∙ (λ i. mapped label (both (sym c.read-point.ensures i) (sym c.read_row-row.ensures i)))
     ∙ ap (mapped label) (both_mapped items_of c.read-point.result c.read_row-row.result)
     ∙ mapped_twice label _ (both c.read-point.result c.read_row-row.result)
@@ -33,7 +33,7 @@ third c =
 pub returns-in_err-end : goal.returns-in_err-end
 returns-in_err-end c =
     ap (mapped label_of) (exits c.from_residual-in_err-end.result _ c.from_residual-in_err-end.ensures.1)
-    ∙ sym (second (goal.at.returns-in_err-end c).In_ok-take-2 ∙ end_err c.in_err-end.field-0.0 (parts_left c.take-2.new.self) _ c.in_err-end.ensures)
+    ∙ sym (second (goal.at.returns-in_err-end c).In_ok-next_part-2 ∙ end_err c.in_err-end.field-0.0 (parts_left c.next_part-2.new.self) _ c.in_err-end.ensures)
 
 pub returns-in_err-point : goal.returns-in_err-point
 returns-in_err-point c =

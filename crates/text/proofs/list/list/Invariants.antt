@@ -6,8 +6,5 @@ use Rattle.text.proofs.list.list.Given as goal
 
 abbrev pub invariant-loop-part : goal.invariant-loop-part
 invariant-loop-part g l =
-    (list_on g.T.Item.says (mapped items_of l.list) (parts_left l.left) ≡ list_on g.T.Item.says (Ok []) (parts_left l.parts))
-    × IfOk l.list (λ v. length (items_of v) + length (parts_left l.left) ≤ g.row.N)
-
-abbrev pub decreases-loop-part : goal.decreases-loop-part
-decreases-loop-part g l = length (parts_left l.left)
+    (list_on g.T.Item.says (mapped items_of l.list) (parts_left l.part-iterator) ≡ list_on g.T.Item.says (Ok []) (parts_left l.parts))
+    × IfOk l.list (λ v. length (items_of v) + length (parts_left l.part-iterator) ≤ g.row.N)

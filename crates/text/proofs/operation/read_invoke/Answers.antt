@@ -9,29 +9,29 @@ use Rattle.text.specs.Parts.{piece_of, parts_left}
 use Rattle.semantics.proofs.Walks.{exits}
 use Rattle.text.proofs.Taking.{with_part, part_ok, part_err, invoke_by, invoked, invoked_malformed, invoked_over, list_few, list_many}
 use Rattle.text.proofs.operation.read_invoke.Goals as goal
-use Rattle.text.proofs.operation.read_invoke.Goals.{In_ok-take-2, In_ok-take-3, After-both-3}
+use Rattle.text.proofs.operation.read_invoke.Goals.{In_ok-next_part-2, In_ok-next_part-3, After-both-3}
 
 -- what the parts say, behind the first two and behind the first three
-second : (c : In_ok-take-2) → invoke_of (parts_left c.args.parts) ≡ with_part (parts_left c.take-2.new.self) (λ m bs. invoked (destination_at (piece_of c.in_ok-take.field-0)) (operand_at (piece_of c.in_ok-take-2.field-0)) (number_at 255 m) (list_of 7 operand_at bs))
+second : (c : In_ok-next_part-2) → invoke_of (parts_left c.args.parts) ≡ with_part (parts_left c.next_part-2.new.self) (λ m bs. invoked (destination_at (piece_of c.in_ok-next_part.field-0)) (operand_at (piece_of c.in_ok-next_part-2.field-0)) (number_at 255 m) (list_of 7 operand_at bs))
 second c =
     invoke_by (parts_left c.args.parts)
-    ∙ part_ok (piece_of c.in_ok-take.field-0) (parts_left c.args.parts) (parts_left c.take.new.self) _ c.in_ok-take.ensures.value c.take.ensures.after
-    ∙ part_ok (piece_of c.in_ok-take-2.field-0) (parts_left c.take.new.self) (parts_left c.take-2.new.self) _ c.in_ok-take-2.ensures.value c.take-2.ensures.after
+    ∙ part_ok (piece_of c.in_ok-next_part.field-0) (parts_left c.args.parts) (parts_left c.next_part.new.self) _ c.in_ok-next_part.ensures.value c.next_part.ensures.after
+    ∙ part_ok (piece_of c.in_ok-next_part-2.field-0) (parts_left c.next_part.new.self) (parts_left c.next_part-2.new.self) _ c.in_ok-next_part-2.ensures.value c.next_part-2.ensures.after
 
-third : (c : In_ok-take-3) → with_part (parts_left c.take-2.new.self) (λ m bs. invoked (destination_at (piece_of c.in_ok-take.field-0)) (operand_at (piece_of c.in_ok-take-2.field-0)) (number_at 255 m) (list_of 7 operand_at bs)) ≡ invoked (destination_at (piece_of c.in_ok-take.field-0)) (operand_at (piece_of c.in_ok-take-2.field-0)) (number_at 255 (piece_of c.in_ok-take-3.field-0)) (list_of 7 operand_at (parts_left c.take-3.new.self))
-third c = part_ok (piece_of c.in_ok-take-3.field-0) (parts_left c.take-2.new.self) (parts_left c.take-3.new.self) _ c.in_ok-take-3.ensures.value c.take-3.ensures.after
+third : (c : In_ok-next_part-3) → with_part (parts_left c.next_part-2.new.self) (λ m bs. invoked (destination_at (piece_of c.in_ok-next_part.field-0)) (operand_at (piece_of c.in_ok-next_part-2.field-0)) (number_at 255 m) (list_of 7 operand_at bs)) ≡ invoked (destination_at (piece_of c.in_ok-next_part.field-0)) (operand_at (piece_of c.in_ok-next_part-2.field-0)) (number_at 255 (piece_of c.in_ok-next_part-3.field-0)) (list_of 7 operand_at (parts_left c.next_part-3.new.self))
+third c = part_ok (piece_of c.in_ok-next_part-3.field-0) (parts_left c.next_part-2.new.self) (parts_left c.next_part-3.new.self) _ c.in_ok-next_part-3.ensures.value c.next_part-3.ensures.after
 
-pub returns-in_err-take-3 : goal.returns-in_err-take-3
-returns-in_err-take-3 c =
-    ap (mapped op_of) (exits c.from_residual-in_err-take-3.result _ c.from_residual-in_err-take-3.ensures.1)
-    ∙ sym (second (goal.at.returns-in_err-take-3 c).In_ok-take-2 ∙ part_err c.in_err-take-3.field-0.0 (parts_left c.take-2.new.self) _ c.in_err-take-3.ensures.value)
+pub returns-in_err-next_part-3 : goal.returns-in_err-next_part-3
+returns-in_err-next_part-3 c =
+    ap (mapped op_of) (exits c.from_residual-in_err-next_part-3.result _ c.from_residual-in_err-next_part-3.ensures.1)
+    ∙ sym (second (goal.at.returns-in_err-next_part-3 c).In_ok-next_part-2 ∙ part_err c.in_err-next_part-3.field-0.0 (parts_left c.next_part-2.new.self) _ c.in_err-next_part-3.ensures.value)
 
-pub returns-then-count-gt-MAX_ARGUMENTS : goal.returns-then-count-gt-MAX_ARGUMENTS
-returns-then-count-gt-MAX_ARGUMENTS c =
-    let k = goal.at.returns-then-count-gt-MAX_ARGUMENTS c in
-    sym (second k.In_ok-take-2 ∙ third k.In_ok-take-3
-    ∙ invoked_malformed (destination_at (piece_of c.in_ok-take.field-0)) (operand_at (piece_of c.in_ok-take-2.field-0)) (number_at 255 (piece_of c.in_ok-take-3.field-0)) _
-    (list_many 7 operand_at (parts_left c.take-3.new.self) (omega (arith, c.count.ensures, c.if-count-gt-MAX_ARGUMENTS.true))))
+pub returns-then-len-gt-MAX_ARGUMENTS : goal.returns-then-len-gt-MAX_ARGUMENTS
+returns-then-len-gt-MAX_ARGUMENTS c =
+    let k = goal.at.returns-then-len-gt-MAX_ARGUMENTS c in
+    sym (second k.In_ok-next_part-2 ∙ third k.In_ok-next_part-3
+    ∙ invoked_malformed (destination_at (piece_of c.in_ok-next_part.field-0)) (operand_at (piece_of c.in_ok-next_part-2.field-0)) (number_at 255 (piece_of c.in_ok-next_part-3.field-0)) _
+    (list_many 7 operand_at (parts_left c.next_part-3.new.self) (omega (arith, c.len.ensures, c.if-len-gt-MAX_ARGUMENTS.true))))
 
 -- the same over what was read
 abbrev invocation_of : Destination × (Operand × (ℕ × ArrayVec Operand 7)) → Op
@@ -40,9 +40,9 @@ invocation_of x = invocation (x.0, (x.1.0, (x.1.1.0, items_of x.1.1.1)))
 fourth : (c : After-both-3) → invoke_of (parts_left c.args.parts) ≡ mapped invocation_of c.both-3.result
 fourth c =
     let k = goal.at.After-both-3 c in
-    let few : length (parts_left c.take-3.new.self) ≤ 7 = omega (arith, c.count.ensures, c.if-count-gt-MAX_ARGUMENTS.false) in
-    second k.In_ok-take-2 ∙ third k.In_ok-take-3
-    ∙ (λ i. invoked (sym c.read-into.ensures i) (sym c.read-receiver.ensures i) (sym c.number-name.ensures.value i) ((list_few 7 operand_at (parts_left c.take-3.new.self) few ∙ sym c.list-arguments.ensures) i))
+    let few : length (parts_left c.next_part-3.new.self) ≤ 7 = omega (arith, c.len.ensures, c.if-len-gt-MAX_ARGUMENTS.false) in
+    second k.In_ok-next_part-2 ∙ third k.In_ok-next_part-3
+    ∙ (λ i. invoked (sym c.read-into.ensures i) (sym c.read-receiver.ensures i) (sym c.number-name.ensures.value i) ((list_few 7 operand_at (parts_left c.next_part-3.new.self) few ∙ sym c.list-arguments.ensures) i))
     ∙ invoked_over items_of c.read-into.result c.read-receiver.result c.number-name.result c.list-arguments.result
     ∙ ap (λ x. mapped invocation_of (both c.read-into.result (both c.read-receiver.result x))) (sym c.both.ensures)
     ∙ ap (λ x. mapped invocation_of (both c.read-into.result x)) (sym c.both-2.ensures)

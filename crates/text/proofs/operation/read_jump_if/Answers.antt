@@ -6,45 +6,45 @@ use Rattle.text.specs.Parts.{piece_of, parts_left}
 use Rattle.semantics.proofs.Walks.{exits}
 use Rattle.text.proofs.Taking.{with_part, at_end, part_ok, part_err, end_ok, end_err, jump_if_by}
 use Rattle.text.proofs.operation.read_jump_if.Goals as goal
-use Rattle.text.proofs.operation.read_jump_if.Goals.{In_ok-take, In_ok-take-2, In_ok-end}
+use Rattle.text.proofs.operation.read_jump_if.Goals.{In_ok-next_part, In_ok-next_part-2, In_ok-end}
 
 abbrev pair : Operand × ℕ → Op
 pair x = jump_if x.0 x.1
 
 -- what the parts say, after one part, after two and at their end
-first : (c : In_ok-take) → jump_if_of (parts_left c.args.parts) ≡ with_part (parts_left c.take.new.self) (λ n L. at_end L (mapped pair (both (operand_at (piece_of c.in_ok-take.field-0)) (number_at 63 n))))
+first : (c : In_ok-next_part) → jump_if_of (parts_left c.args.parts) ≡ with_part (parts_left c.next_part.new.self) (λ n L. at_end L (mapped pair (both (operand_at (piece_of c.in_ok-next_part.field-0)) (number_at 63 n))))
 first c =
     jump_if_by (parts_left c.args.parts)
-    ∙ part_ok (piece_of c.in_ok-take.field-0) (parts_left c.args.parts) (parts_left c.take.new.self) _ c.in_ok-take.ensures.value c.take.ensures.after
+    ∙ part_ok (piece_of c.in_ok-next_part.field-0) (parts_left c.args.parts) (parts_left c.next_part.new.self) _ c.in_ok-next_part.ensures.value c.next_part.ensures.after
 
-second : (c : In_ok-take-2) → with_part (parts_left c.take.new.self) (λ n L. at_end L (mapped pair (both (operand_at (piece_of c.in_ok-take.field-0)) (number_at 63 n)))) ≡ at_end (parts_left c.take-2.new.self) (mapped pair (both (operand_at (piece_of c.in_ok-take.field-0)) (number_at 63 (piece_of c.in_ok-take-2.field-0))))
-second c = part_ok (piece_of c.in_ok-take-2.field-0) (parts_left c.take.new.self) (parts_left c.take-2.new.self) _ c.in_ok-take-2.ensures.value c.take-2.ensures.after
+second : (c : In_ok-next_part-2) → with_part (parts_left c.next_part.new.self) (λ n L. at_end L (mapped pair (both (operand_at (piece_of c.in_ok-next_part.field-0)) (number_at 63 n)))) ≡ at_end (parts_left c.next_part-2.new.self) (mapped pair (both (operand_at (piece_of c.in_ok-next_part.field-0)) (number_at 63 (piece_of c.in_ok-next_part-2.field-0))))
+second c = part_ok (piece_of c.in_ok-next_part-2.field-0) (parts_left c.next_part.new.self) (parts_left c.next_part-2.new.self) _ c.in_ok-next_part-2.ensures.value c.next_part-2.ensures.after
 
-third : (c : In_ok-end) → at_end (parts_left c.take-2.new.self) (mapped pair (both (operand_at (piece_of c.in_ok-take.field-0)) (number_at 63 (piece_of c.in_ok-take-2.field-0)))) ≡ mapped pair (both c.read-condition.result c.read-label.result)
+third : (c : In_ok-end) → at_end (parts_left c.next_part-2.new.self) (mapped pair (both (operand_at (piece_of c.in_ok-next_part.field-0)) (number_at 63 (piece_of c.in_ok-next_part-2.field-0)))) ≡ mapped pair (both c.read-condition.result c.read-label.result)
 third c =
-    end_ok tt (parts_left c.take-2.new.self) _ c.in_ok-end.ensures
+    end_ok tt (parts_left c.next_part-2.new.self) _ c.in_ok-end.ensures
     ∙ (λ i. mapped pair (both (sym c.read-condition.ensures i) (sym c.read-label.ensures i)))
 
-pub returns-in_err-take-2 : goal.returns-in_err-take-2
-returns-in_err-take-2 c =
-    ap (mapped op_of) (exits c.from_residual-in_err-take-2.result _ c.from_residual-in_err-take-2.ensures.1)
-    ∙ sym (first (goal.at.returns-in_err-take-2 c).In_ok-take ∙ part_err c.in_err-take-2.field-0.0 (parts_left c.take.new.self) _ c.in_err-take-2.ensures.value)
+pub returns-in_err-next_part-2 : goal.returns-in_err-next_part-2
+returns-in_err-next_part-2 c =
+    ap (mapped op_of) (exits c.from_residual-in_err-next_part-2.result _ c.from_residual-in_err-next_part-2.ensures.1)
+    ∙ sym (first (goal.at.returns-in_err-next_part-2 c).In_ok-next_part ∙ part_err c.in_err-next_part-2.field-0.0 (parts_left c.next_part.new.self) _ c.in_err-next_part-2.ensures.value)
 
 pub returns-in_err-end : goal.returns-in_err-end
 returns-in_err-end c =
     let k = goal.at.returns-in_err-end c in
     ap (mapped op_of) (exits c.from_residual-in_err-end.result _ c.from_residual-in_err-end.ensures.1)
-    ∙ sym (first k.In_ok-take ∙ second k.In_ok-take-2 ∙ end_err c.in_err-end.field-0.0 (parts_left c.take-2.new.self) _ c.in_err-end.ensures)
+    ∙ sym (first k.In_ok-next_part ∙ second k.In_ok-next_part-2 ∙ end_err c.in_err-end.field-0.0 (parts_left c.next_part-2.new.self) _ c.in_err-end.ensures)
 
 pub returns-in_err-condition : goal.returns-in_err-condition
 returns-in_err-condition c =
     let k = goal.at.returns-in_err-condition c in
     ap (mapped op_of) (exits c.from_residual-in_err-condition.result _ c.from_residual-in_err-condition.ensures.1)
     ∙ ap (mapped pair) c.in_err-condition.ensures
-    ∙ sym (first k.In_ok-take ∙ second k.In_ok-take-2 ∙ third k.In_ok-end)
+    ∙ sym (first k.In_ok-next_part ∙ second k.In_ok-next_part-2 ∙ third k.In_ok-end)
 
 pub returns : goal.returns
 returns c =
     let k = goal.at.returns c in
     ap (mapped pair) c.in_ok-condition.ensures
-    ∙ sym (first k.In_ok-take ∙ second k.In_ok-take-2 ∙ third k.In_ok-end)
+    ∙ sym (first k.In_ok-next_part ∙ second k.In_ok-next_part-2 ∙ third k.In_ok-end)

@@ -10,5 +10,5 @@ pub returns-in_err-end : goal.returns-in_err-end
 returns-in_err-end c =
     ap (mapped op_of) (exits c.from_residual-in_err-end.result _ c.from_residual-in_err-end.ensures.1)
     ∙ sym (return_by (parts_left c.args.parts)
-    ∙ part_ok (piece_of c.in_ok-take.field-0) (parts_left c.args.parts) (parts_left c.take.new.self) _ c.in_ok-take.ensures.value c.take.ensures.after
-    ∙ end_err c.in_err-end.field-0.0 (parts_left c.take.new.self) _ c.in_err-end.ensures)
+    ∙ part_ok (piece_of c.in_ok-next_part.field-0) (parts_left c.args.parts) (parts_left c.next_part.new.self) _ c.in_ok-next_part.ensures.value c.next_part.ensures.after
+    ∙ end_err c.in_err-end.field-0.0 (parts_left c.next_part.new.self) _ c.in_err-end.ensures)

@@ -1,6 +1,7 @@
-use Rattle.std.proofs.lemmas.Bool.{cond-true}
+use Rattle.std.proofs.Common.{ap}
+use Rattle.text.specs.Parts.{parts_in}
 use Rattle.text.proofs.Cuts.{ended_more}
 use Rattle.text.proofs.part.Parts.end.Goals as goal
 
-pub returns-then-self : goal.returns-then-self
-returns-then-self c = ended_more c.args.self.now.separator c.args.self.now.at c.args.self.now.bytes.now _ (cond-true _ _ _ c.if-self.true)
+pub returns-in-Some : goal.returns-in-Some
+returns-in-Some c = ended_more c.args.self.now.separator c.in-Some.field-0.at c.in-Some.field-0.bytes.now _ (ap (parts_in c.args.self.now.separator) c.in-Some.is)

@@ -1,25 +1,22 @@
-use Rattle.std.proofs.Common.{◌-◌, ◌≤◌, length, drop, sym, arith, rules}
-use Rattle.std.proofs.lemmas.List.{length-take, length-drop}
-use Rattle.text.proofs.Words.{word_within, line_found, line_behind}
+use Rattle.std.proofs.Common.{◌≡◌, Some, sym, ap, ◌∙◌}
+use Rattle.std.specs.Result.{result_ok}
+use Rattle.semantics.proofs.Walks.{exits}
+use Rattle.text.specs.Lines.{piece_read, line_of, left_of}
+use Rattle.text.specs.Parts.{piece_of, pieces_in, cut}
+use Rattle.text.proofs.Words.{line_value}
 use Rattle.text.proofs.reader.Reader.line.Goals as goal
-use Rattle.text.proofs.reader.Reader.line.Goals.{Else-not-begins_with}
+use Rattle.text.proofs.reader.Reader.line.Goals.{After-ok_or-2}
 
--- the word lies before the end of the line
-within : (c : Else-not-begins_with) → length c.args.word.now ≤ c.up_to-end.result
-within c = let k = word_within c.args.word.now c.args.self.now.left.now c.requires (sym c.if-not-begins_with.ensures.value) in omega (arith, c.up_to-end.ensures.value)
+-- what the line is, by the value behind the word
+found : (c : After-ok_or-2) → piece_read c.ok_or-2.result ≡ line_of c.args.word.now (left_of c.args.self.now)
+found c =
+    let e : Some (piece_of c.in_ok-line.line, piece_of c.in_ok-line.left) ≡ cut 10 (left_of c.args.self.now) = ap pieces_in (sym (c.ok_or.ensures.ok_part ∙ ap result_ok c.in_ok-line.was)) ∙ c.split_once.ensures in
+    line_value c.args.word.now (left_of c.args.self.now) (piece_of c.in_ok-line.line) (piece_of c.in_ok-line.left) c.strip_prefix.result c.ok_or-2.result c.requires e c.strip_prefix.ensures c.ok_or-2.ensures.value
 
-pub slice_bounds-value-count : goal.slice_bounds-value-count
-slice_bounds-value-count c = within c
+pub returns-in_err-value-clause-value : goal.returns-in_err-value-clause-value
+returns-in_err-value-clause-value c =
+    ap piece_read (exits c.from_residual-in_err-value.result _ c.from_residual-in_err-value.ensures.1 ∙ sym c.in_err-value.was)
+    ∙ found (goal.at.returns-in_err-value-clause-value c).After-ok_or-2
 
-pub slice_bounds-value-start : goal.slice_bounds-value-start
-slice_bounds-value-start c = let h = within c in search rules
-
-pub returns : goal.returns
-returns c =
-    let s = c.args.self.now in
-    let h = within (goal.at.returns c).Else-not-begins_with in
-    record {
-      value = line_found c.args.word.now s.left.now s.at c.up_to-end.result c.up_to-end.ensures.value c.up_to-end.ensures.bound c.if-end-left.false c.if-not-begins_with.ensures.value;
-      after = line_behind s.left.now s.at c.up_to-end.result c.up_to-end.ensures.value;
-      placed = omega (arith, length-take (c.up_to-end.result - length c.args.word.now) (drop (length c.args.word.now) s.left.now), length-drop (length c.args.word.now) s.left.now, s.placed, h, c.up_to-end.ensures.bound);
-    }
+pub returns-clause-value : goal.returns-clause-value
+returns-clause-value c = ap piece_read (sym c.in_ok-value.was) ∙ found (goal.at.returns-clause-value c).After-ok_or-2
