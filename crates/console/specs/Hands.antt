@@ -4,18 +4,21 @@ use Rattle.semantics.specs.Cards.{CardDef}
 use Rattle.card.specs.CardMeaning.{card_of}
 use Rattle.classes.specs.declared.climbing.Climbing.{Climbing}
 use Rattle.classes.specs.declared.masks.Masks.{Masks}
+use Rattle.classes.specs.contracts.climbing.ClimbingClassTable.TheImpl as climbing
+use Rattle.classes.specs.contracts.masks.MasksClassTable.TheImpl as masks
 use Rattle.console.specs.declared.cards.Cards.{Cards}
+use Rattle.console.specs.declared.cards.Cards.TheVariants as cards
 use Rattle.console.specs.declared.command.Table.{Table}
 use Rattle.console.specs.declared.command.Table.TheVariants as table
 
--- the one of two cards that a table names
-abbrev pub named : Table → CardDef → CardDef → CardDef
-named table.Climbing a b = a
-named table.Masks a b = b
+abbrev pub hand_of : Cards → CardDef
+hand_of (cards.Climbing k) = card_of {T = Climbing} climbing.ghosts.listed k
+hand_of (cards.Masks k) = card_of {T = Masks} masks.ghosts.listed k
 
--- f and g tell the parents that the two tables list
-abbrev pub hand_of : (Climbing → List ℕ) → (Masks → List ℕ) → Cards → CardDef
-hand_of f g k = named k.table (card_of f k.climbing) (card_of g k.masks)
+-- the class table that it is over
+abbrev pub table_of : Cards → Table
+table_of (cards.Climbing k) = table.Climbing
+table_of (cards.Masks k) = table.Masks
 
 -- the whole buffer after a call that was lent its first bytes
 abbrev pub lent : ℕ → (List ℕ → List ℕ) → List ℕ → List ℕ

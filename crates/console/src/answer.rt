@@ -14,6 +14,7 @@ pub struct Answer(pub Response);
 #[derive(Clone, Copy)]
 struct Ended(Ending);
 
+// Not a `Display`: `Layer` is another crate's, and a type round it would say no more.
 fn layer_word(layer: Layer) -> &'static str
     ensures { result.now ≡ layer_word layer }
 {

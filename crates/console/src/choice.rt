@@ -3,10 +3,10 @@ ghost use Rattle.std.specs.Prelude.{◌≡◌};
 ghost use Rattle.console.specs.Requests.{standard};
 
 use crate::fault::Fault;
-use crate::words::{Word, Words, understood};
+use crate::words::{Word, Words};
 use hosts::script::Cue;
+use semantics::call::Offered;
 use semantics::value::Value;
-use std::alloc::Global;
 
 #[derive(Drop)]
 pub enum First {
@@ -14,6 +14,7 @@ pub enum First {
     Cells,
 }
 
+// Not an `Option` of cues: `None` would not say that cells answer.
 #[derive(Drop)]
 pub enum Second {
     Cells,
@@ -32,12 +33,13 @@ pub enum Choice {
 impl Word for Cue {
     fn read(word: &str) -> Result<Cue, Fault> {
         let (name, value) = word.split_once(':').ok_or(Fault::NotUnderstood)?;
-        let (class, number) = value.split_once(':').ok_or(Fault::NotUnderstood)?;
+        let name = u32::read(name)?;
+        let Offered { class, number } = Offered::read(value)?;
         Ok(Cue {
-            name: understood(u8::try_from(u32::read(name)?))?,
+            name: u8::try_from(name)?,
             value: Value {
-                class: understood(u8::try_from(u32::read(class)?))?,
-                number: understood(i32::try_from(i64::read(number)?))?,
+                class: u8::try_from(class)?,
+                number: i32::try_from(number)?,
             },
         })
     }
@@ -54,10 +56,10 @@ impl Word for First {
 }
 
 impl Second {
-    fn read(heap: Global, mut words: Words<'_>) -> Result<Second, Fault> {
+    fn read(mut words: Words<'_>) -> Result<Second, Fault> {
         match words.word()? {
             "cell" => words.end(Second::Cells),
-            "script" => Ok(Second::Script(words.rest(heap)?)),
+            "script" => Ok(Second::Script(words.rest()?)),
             _ => Err(Fault::NotUnderstood),
         }
     }
@@ -75,14 +77,14 @@ impl Choice {
     }
 
     // The host that the words left say.
-    pub fn read(heap: Global, mut words: Words<'_>) -> Result<Choice, Fault> {
+    pub fn read(mut words: Words<'_>) -> Result<Choice, Fault> {
         match words.word()? {
             "number" => words.end(Choice::Numbers),
             "cell" => words.end(Choice::Cells),
-            "script" => Ok(Choice::Script(words.rest(heap)?)),
+            "script" => Ok(Choice::Script(words.rest()?)),
             "switch" => {
                 let first = words.next()?;
-                let second = Second::read(heap, words)?;
+                let second = Second::read(words)?;
                 Ok(Choice::Switch { first, second })
             }
             _ => Err(Fault::NotUnderstood),

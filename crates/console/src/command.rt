@@ -5,8 +5,7 @@ ghost use Rattle.console.specs.Requests.{request_of};
 
 use crate::choice::Choice;
 use crate::fault::Fault;
-use crate::hex::bytes;
-use crate::words::{Word, Words, numbers, understood};
+use crate::words::{Word, Words};
 use semantics::call::{Kind, Offered};
 use session::call::Call;
 use std::alloc::Global;
@@ -19,6 +18,7 @@ pub enum Table {
 }
 
 // The text of a call: the lines behind the command, or bytes in the command itself.
+// Not an `Option` of bytes: `None` would not say that lines follow.
 #[derive(Drop)]
 pub enum Text {
     Block,
@@ -111,107 +111,85 @@ impl Word for Table {
     }
 }
 
-// The length of a buffer.
-impl Word for u16 {
-    fn read(word: &str) -> Result<u16, Fault> {
-        understood(u16::try_from(u32::read(word)?))
+impl Request {
+    fn native(mut words: Words<'_>) -> Result<Request, Fault> {
+        let class = words.next()?;
+        let name = words.next()?;
+        let arguments = words.numbers()?;
+        let result = words.only()?;
+        Ok(Request::Native {
+            class,
+            name,
+            arguments,
+            result,
+        })
+    }
+
+    fn start(mut words: Words<'_>) -> Result<Request, Fault> {
+        let receiver = words.next()?;
+        let name = words.next()?;
+        let arguments = words.rest()?;
+        Ok(Request::Start {
+            receiver,
+            name,
+            arguments,
+        })
     }
 }
 
-fn card(mut words: Words<'_>) -> Result<Command, Fault> {
-    let kind = words.next()?;
-    let table = words.next()?;
-    words.end(Command::Card { kind, table })
-}
-
-fn class(mut words: Words<'_>) -> Result<Command, Fault> {
-    let parent = words.next()?;
-    words.end(Command::Call(Request::Class { parent }))
-}
-
-fn native(heap: Global, mut words: Words<'_>) -> Result<Command, Fault> {
-    let class = words.next()?;
-    let name = words.next()?;
-    let arguments = numbers(heap, words.word()?)?;
-    let result = words.next()?;
-    words.end(Command::Call(Request::Native {
-        class,
-        name,
-        arguments,
-        result,
-    }))
-}
-
-fn load_hex(heap: Global, mut words: Words<'_>) -> Result<Command, Fault> {
-    let text = bytes(heap, words.word()?)?;
-    words.end(Command::Load(Text::Bytes(text)))
-}
-
-fn fill(mut words: Words<'_>) -> Result<Command, Fault> {
-    let room = words.next()?;
-    let text = Text::Block;
-    words.end(Command::Fill { room, text })
-}
-
-fn fill_hex(heap: Global, mut words: Words<'_>) -> Result<Command, Fault> {
-    let room = words.next()?;
-    let text = Text::Bytes(bytes(heap, words.word()?)?);
-    words.end(Command::Fill { room, text })
-}
-
-fn start(heap: Global, mut words: Words<'_>) -> Result<Command, Fault> {
-    let receiver = words.next()?;
-    let name = words.next()?;
-    let arguments = words.rest(heap)?;
-    Ok(Command::Call(Request::Start {
-        receiver,
-        name,
-        arguments,
-    }))
-}
-
-fn go(mut words: Words<'_>) -> Result<Command, Fault> {
-    let steps = words.next()?;
-    words.end(Command::Call(Request::Go { steps }))
-}
-
-fn write(mut words: Words<'_>) -> Result<Command, Fault> {
-    let row = words.next()?;
-    let room = words.next()?;
-    words.end(Command::Write { row, room })
-}
-
-fn fits(mut words: Words<'_>) -> Result<Command, Fault> {
-    let a = words.next()?;
-    let b = words.next()?;
-    words.end(Command::Fits { a, b })
-}
-
-fn join(mut words: Words<'_>) -> Result<Command, Fault> {
-    let a = words.next()?;
-    let b = words.next()?;
-    words.end(Command::Join { a, b })
+impl Text {
+    fn read(mut words: Words<'_>) -> Result<Text, Fault> {
+        let bytes = words.bytes()?;
+        words.end(Text::Bytes(bytes))
+    }
 }
 
 impl Command {
     // The command that a line says.
     pub fn read(heap: Global, line: &[u8]) -> Result<Command, Fault> {
-        let mut words = Words::new(understood(from_utf8(line))?);
-        match words.word()? {
-            "card" => card(words),
-            "host" => Ok(Command::Host(Choice::read(heap, words)?)),
-            "class" => class(words),
-            "native" => native(heap, words),
-            "load" => words.end(Command::Load(Text::Block)),
-            "loadhex" => load_hex(heap, words),
-            "fill" => fill(words),
-            "fillhex" => fill_hex(heap, words),
-            "start" => start(heap, words),
-            "go" => go(words),
-            "write" => write(words),
-            "fits" => fits(words),
-            "join" => join(words),
-            _ => Err(Fault::NotUnderstood),
-        }
+        let mut words = Words::new(heap, from_utf8(line)?);
+        let command = match words.word()? {
+            "card" => {
+                let (kind, table) = words.pair()?;
+                Command::Card { kind, table }
+            }
+            "host" => Command::Host(Choice::read(words)?),
+            "class" => {
+                let parent = words.only()?;
+                Command::Call(Request::Class { parent })
+            }
+            "native" => Command::Call(Request::native(words)?),
+            "load" => words.end(Command::Load(Text::Block))?,
+            "loadhex" => Command::Load(Text::read(words)?),
+            "fill" => {
+                let room = words.only()?;
+                let text = Text::Block;
+                Command::Fill { room, text }
+            }
+            "fillhex" => {
+                let room = words.next()?;
+                let text = Text::read(words)?;
+                Command::Fill { room, text }
+            }
+            "start" => Command::Call(Request::start(words)?),
+            "go" => {
+                let steps = words.only()?;
+                Command::Call(Request::Go { steps })
+            }
+            "write" => {
+                let (row, room) = words.pair()?;
+                Command::Write { row, room }
+            }
+            "fits" => {
+                let (a, b) = words.pair()?;
+                Command::Fits { a, b }
+            }
+            "join" => {
+                let (a, b) = words.pair()?;
+                Command::Join { a, b }
+            }
+            _ => return Err(Fault::NotUnderstood),
+        };
+        Ok(command)
     }
 }

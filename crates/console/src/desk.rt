@@ -4,14 +4,11 @@ ghost use Rattle.semantics.specs.declared.call.Kind.TheVariants.{Issue};
 ghost use Rattle.semantics.specs.Calls.{act};
 ghost use Rattle.semantics.specs.Cards.{blank_card, fill_into, write_into};
 ghost use Rattle.session.specs.CallMeaning.{call_of};
-ghost use Rattle.console.specs.Hands.{hand_of, lent};
+ghost use Rattle.console.specs.Hands.{hand_of, table_of, lent};
 
 use crate::answer::Answer;
 use crate::cards::Cards;
 use crate::command::Table;
-use classes::climbing::Climbing;
-use classes::masks::Masks;
-use classes::table::ClassTable;
 use hosts::host::Host;
 use semantics::call::{Kind, Response};
 use session::call::Call;
@@ -28,7 +25,7 @@ pub struct Desk {
 impl Desk {
     // A blank issue card over the climbing table.
     pub fn new() -> Desk
-        ensures { hand_of ⟦<Climbing as ClassTable>⟧.listed ⟦<Masks as ClassTable>⟧.listed result.cards ≡ blank_card Issue }
+        ensures { hand_of result.cards ≡ blank_card Issue }
     {
         Desk {
             cards: Cards::blank(Kind::Issue, Table::Climbing),
@@ -38,8 +35,8 @@ impl Desk {
 
     // Puts a blank card in place of the one in hand.
     pub fn renew(&mut self, kind: Kind, table: Table)
-        ensures hand { hand_of ⟦<Climbing as ClassTable>⟧.listed ⟦<Masks as ClassTable>⟧.listed self.new.cards ≡ blank_card kind }
-        ensures table { self.new.cards.table ≡ table }
+        ensures hand { hand_of self.new.cards ≡ blank_card kind }
+        ensures table { table_of self.new.cards ≡ table }
         ensures buffer { self.new.buffer ≡ self.old.buffer }
     {
         self.cards = Cards::blank(kind, table);
@@ -52,9 +49,9 @@ impl Desk {
         host: &mut H,
         call: Call<'_>,
     ) -> io::Result<()>
-        ensures card { hand_of ⟦<Climbing as ClassTable>⟧.listed ⟦<Masks as ClassTable>⟧.listed self.new.cards ≡ (act H.reply (hand_of ⟦<Climbing as ClassTable>⟧.listed ⟦<Masks as ClassTable>⟧.listed self.old.cards) (H.condition host.old) (call_of 0 call.entry)).card }
-        ensures table { self.new.cards.table ≡ self.old.cards.table }
-        ensures host { H.condition host.new ≡ (act H.reply (hand_of ⟦<Climbing as ClassTable>⟧.listed ⟦<Masks as ClassTable>⟧.listed self.old.cards) (H.condition host.old) (call_of 0 call.entry)).host }
+        ensures card { hand_of self.new.cards ≡ (act H.reply (hand_of self.old.cards) (H.condition host.old) (call_of 0 call.entry)).card }
+        ensures table { table_of self.new.cards ≡ table_of self.old.cards }
+        ensures host { H.condition host.new ≡ (act H.reply (hand_of self.old.cards) (H.condition host.old) (call_of 0 call.entry)).host }
         ensures buffer { self.new.buffer ≡ self.old.buffer }
     {
         let answer = Answer(self.cards.perform(host, call, &mut []));
@@ -69,10 +66,10 @@ impl Desk {
         room: u16,
         text: &[u8],
     ) -> io::Result<()>
-        ensures card { hand_of ⟦<Climbing as ClassTable>⟧.listed ⟦<Masks as ClassTable>⟧.listed self.new.cards ≡ hand_of ⟦<Climbing as ClassTable>⟧.listed ⟦<Masks as ClassTable>⟧.listed self.old.cards }
-        ensures table { self.new.cards.table ≡ self.old.cards.table }
+        ensures card { hand_of self.new.cards ≡ hand_of self.old.cards }
+        ensures table { table_of self.new.cards ≡ table_of self.old.cards }
         ensures host { H.condition host.new ≡ H.condition host.old }
-        ensures buffer { self.new.buffer ≡ lent room (fill_into (hand_of ⟦<Climbing as ClassTable>⟧.listed ⟦<Masks as ClassTable>⟧.listed self.old.cards) text.now) self.old.buffer }
+        ensures buffer { self.new.buffer ≡ lent room (fill_into (hand_of self.old.cards) text.now) self.old.buffer }
     {
         let buffer = &mut self.buffer[0..room as usize];
         let response = self.cards.perform(host, Call::Fill { text }, buffer);
@@ -87,7 +84,7 @@ impl Desk {
     // Writes a row's text into a buffer of that length, and prints its answer and the text.
     pub fn write(&mut self, rt: &HostRuntime, row: u32, room: u16) -> io::Result<()>
         ensures card { self.new.cards ≡ self.old.cards }
-        ensures buffer { self.new.buffer ≡ lent room (write_into (hand_of ⟦<Climbing as ClassTable>⟧.listed ⟦<Masks as ClassTable>⟧.listed self.old.cards) row) self.old.buffer }
+        ensures buffer { self.new.buffer ≡ lent room (write_into (hand_of self.old.cards) row) self.old.buffer }
     {
         match self.cards.write(row, &mut self.buffer[0..room as usize]) {
             Ok(length) => {

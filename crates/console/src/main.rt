@@ -10,7 +10,6 @@ mod choice;
 mod command;
 mod desk;
 mod fault;
-mod hex;
 mod lines;
 mod play;
 mod words;

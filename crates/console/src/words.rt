@@ -1,41 +1,32 @@
 // The words of a command, parted by single blanks, and what can stand for one.
-ghost use Rattle.std.specs.Prelude.{◌≡◌};
-ghost use Rattle.console.specs.Requests.{understood_of};
-
 use crate::fault::Fault;
 use semantics::call::Offered;
 use std::alloc::Global;
 use std::str::Split;
 
+// Not `FromStr`: that of a number takes a plus and leading zeros, and other crates' types have none.
 pub trait Word: Sized {
     fn read(word: &str) -> Result<Self, Fault>;
 }
 
 // Whether the word begins as decimal digits do, with no 0 in front of others.
 fn plain(word: &str) -> bool {
-    match word.as_bytes() {
-        [b'0'] => true,
-        [b'1'..=b'9', ..] => true,
-        _ => false,
-    }
-}
-
-pub fn understood<T, E: Drop>(read: Result<T, E>) -> Result<T, Fault>
-    ensures { result ≡ understood_of read }
-{
-    match read {
-        Ok(x) => Ok(x),
-        Err(_) => Err(Fault::NotUnderstood),
-    }
+    matches!(word.as_bytes(), [b'0'] | [b'1'..=b'9', ..])
 }
 
 impl Word for u32 {
     fn read(word: &str) -> Result<u32, Fault> {
-        if plain(word) {
-            understood(word.parse())
-        } else {
-            Err(Fault::NotUnderstood)
+        if !plain(word) {
+            return Err(Fault::NotUnderstood);
         }
+        Ok(word.parse()?)
+    }
+}
+
+// The length of a buffer.
+impl Word for u16 {
+    fn read(word: &str) -> Result<u16, Fault> {
+        Ok(u16::try_from(u32::read(word)?)?)
     }
 }
 
@@ -43,11 +34,10 @@ impl Word for u32 {
 impl Word for i64 {
     fn read(word: &str) -> Result<i64, Fault> {
         let digits = word.strip_prefix('-').unwrap_or(word);
-        if plain(digits) && word != "-0" {
-            understood(word.parse())
-        } else {
-            Err(Fault::NotUnderstood)
+        if !plain(digits) || word == "-0" {
+            return Err(Fault::NotUnderstood);
         }
+        Ok(word.parse()?)
     }
 }
 
@@ -62,31 +52,17 @@ impl Word for Offered {
     }
 }
 
-fn list<T: Word + Drop>(heap: Global, words: Split<'_, char>) -> Result<Vec<T>, Fault> {
-    let mut list = Vec::new(heap);
-    for word in words {
-        list.push(T::read(word)?)?;
-    }
-    Ok(list)
-}
-
-// Numbers parted by commas; a minus for none.
-pub fn numbers(heap: Global, word: &str) -> Result<Vec<u32>, Fault> {
-    if word == "-" {
-        return Ok(Vec::new(heap));
-    }
-    list(heap, word.split(','))
-}
-
 // The words that are still to be taken.
 #[derive(Drop)]
 pub struct Words<'a> {
+    heap: Global,
     left: Split<'a, char>,
 }
 
 impl<'a> Words<'a> {
-    pub fn new(line: &'a str) -> Words<'a> {
+    pub fn new(heap: Global, line: &'a str) -> Words<'a> {
         Words {
+            heap,
             left: line.split(' '),
         }
     }
@@ -100,18 +76,53 @@ impl<'a> Words<'a> {
         T::read(self.word()?)
     }
 
+    // Numbers parted by commas; a minus for none.
+    pub fn numbers(&mut self) -> Result<Vec<u32>, Fault> {
+        match self.word()? {
+            "-" => Ok(Vec::new(self.heap)),
+            word => word.split(',').map(u32::read).try_collect(self.heap),
+        }
+    }
+
+    // Bytes in hexadecimal; a minus for none.
+    pub fn bytes(&mut self) -> Result<Vec<u8>, Fault> {
+        match self.word()? {
+            "-" => Ok(Vec::new(self.heap)),
+            "" => Err(Fault::NotUnderstood),
+            word => Ok(hex::decode(self.heap, word)?),
+        }
+    }
+
     // What each of the words left stands for.
-    pub fn rest<T: Word + Drop>(self, heap: Global) -> Result<Vec<T>, Fault> {
-        let Words { left } = self;
-        list(heap, left)
+    pub fn rest<T: Word + Drop>(self) -> Result<Vec<T>, Fault> {
+        let Words { heap, left } = self;
+        let mut rest = Vec::new(heap);
+        // Not a `map`: no proof covers one by a function whose result is of a type parameter.
+        for word in left {
+            rest.push(T::read(word)?)?;
+        }
+        Ok(rest)
     }
 
     // The command, if no word is left.
     pub fn end<T: Drop>(self, command: T) -> Result<T, Fault> {
-        let Words { mut left } = self;
+        let Words { mut left, .. } = self;
         match left.next() {
             Some(_) => Err(Fault::NotUnderstood),
             None => Ok(command),
         }
+    }
+
+    // What the only word left stands for.
+    pub fn only<T: Word + Drop>(mut self) -> Result<T, Fault> {
+        let word = self.next()?;
+        self.end(word)
+    }
+
+    // What the two words left stand for.
+    pub fn pair<A: Word + Drop, B: Word + Drop>(mut self) -> Result<(A, B), Fault> {
+        let first = self.next()?;
+        let second = self.next()?;
+        self.end((first, second))
     }
 }

@@ -26,11 +26,11 @@ drop_next i xs ys e = sym (drop-drop 1 i xs) ∙ ap (drop 1) e ∙ drop-drop 1 i
 pub taken_length : (room places : ℕ) (xs : List Call) → length (taken_calls room places xs) ≡ min places (length xs)
 taken_length room places xs = length-map (take places xs) (call_of room) ∙ length-take places xs
 
-pub call_at : (room places i : ℕ) (xs : List Call) (d : Call) → i < length xs → i < places → drop i (taken_calls room places xs) ≡ call_of room (get_or xs i d) ∷ drop (i + 1) (taken_calls room places xs)
-call_at room places i xs d h p =
+pub call_at : (room places i : ℕ) (xs : List Call) (x : Call) → i < length xs → x ≡ get_or xs i x → i < places → drop i (taken_calls room places xs) ≡ call_of room x ∷ drop (i + 1) (taken_calls room places xs)
+call_at room places i xs x h e p =
     let l = length-take places xs in
-    drop_more (taken_calls room places xs) i (call_of room d) (omega (arith, taken_length room places xs))
-    ∙ ap (λ y. y ∷ drop (i + 1) (taken_calls room places xs)) (get_or-map (call_of room) (take places xs) i d (call_of room d) (omega arith) ∙ ap (call_of room) (get_or-take places xs i d p))
+    drop_more (taken_calls room places xs) i (call_of room x) (omega (arith, taken_length room places xs))
+    ∙ ap (λ y. y ∷ drop (i + 1) (taken_calls room places xs)) (get_or-map (call_of room) (take places xs) i x (call_of room x) (omega arith) ∙ ap (call_of room) (get_or-take places xs i x p ∙ sym e))
 
 module _ {C : Type 0} (reply : Reply C) (xs : List CallDef) (k₀ : CardDef) (c₀ : C) (b₀ : List ℕ) (r₀ : List Response) where
   pub performed_none : Performed reply xs k₀ c₀ b₀ r₀ 0 k₀ c₀ b₀ r₀

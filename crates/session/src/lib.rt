@@ -3,4 +3,3 @@
 
 pub mod call;
 pub mod perform;
-mod responses;

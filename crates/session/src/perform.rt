@@ -6,7 +6,6 @@ ghost use Rattle.card.specs.CardMeaning.{card_of};
 ghost use Rattle.session.specs.CallMeaning.{call_of, buffer_after, taken_calls, responded_in, buffer_after_all};
 
 use crate::call::Call;
-use crate::responses::{class_response, fill_response, go_response, row_response, start_response};
 use card::card::Card;
 use classes::table::ClassTable;
 use hosts::host::Host;
@@ -24,23 +23,30 @@ pub fn perform<T: ClassTable, H: Host>(
     ensures host { H.condition host.new ≡ (act H.reply (card_of T.listed card.old) (H.condition host.old) (call_of (length buffer.old) call.now)).host }
     ensures buffer { buffer.new ≡ buffer_after (card_of T.listed card.old) (call_of (length buffer.old) call.now) buffer.old }
 {
-    match call {
-        Call::Class { parent } => class_response(card.class(*parent)),
+    let answer = match call {
+        Call::Class { parent } => card.class(*parent).map(|number| Response::Class { number }),
         Call::Native {
             class,
             name,
             arguments,
             result,
-        } => row_response(card.native(*class, *name, arguments, *result)),
-        Call::Load { text } => row_response(card.load(text)),
+        } => card
+            .native(*class, *name, arguments, *result)
+            .map(|number| Response::Row { number }),
+        Call::Load { text } => card.load(text).map(|number| Response::Row { number }),
         Call::Start {
             receiver,
             name,
             arguments,
-        } => start_response(card.start(*receiver, *name, arguments)),
-        Call::Go { steps } => go_response(card.go(host, *steps)),
-        Call::Fill { text } => fill_response(card.fill(text, buffer)),
-    }
+        } => card
+            .start(*receiver, *name, arguments)
+            .map(|()| Response::Started),
+        Call::Go { steps } => card.go(host, *steps).map(Response::Ended),
+        Call::Fill { text } => card
+            .fill(text, buffer)
+            .map(|(length, sweeps)| Response::Filled { length, sweeps }),
+    };
+    answer.unwrap_or_else(Response::Refused)
 }
 
 // The calls in their order, as many as there are places for responses.
@@ -57,7 +63,11 @@ pub fn perform_all<T: ClassTable, H: Host>(
     // what is promised of every list of calls on a card that began blank, over every host
     ensures promise { PromisedFrom H.reply (card_of T.listed card.old) (H.condition host.old) (taken_calls (length buffer.old) (length responses.old) calls.now) }
 {
-    for i in 0..calls.len().min(responses.len()) {
-        responses[i] = perform(card, host, &calls[i], buffer);
+    // Not a `zip`: after one over `iter_mut` a proof knows nothing of the responses.
+    for (i, response) in responses.iter_mut().enumerate() {
+        let Some(call) = calls.get(i) else {
+            break;
+        };
+        *response = perform(card, host, call, buffer);
     }
 }

@@ -10,12 +10,10 @@ const LINE_END: u8 = b'\n';
 fn line_length(bytes: &[u8]) -> usize
     ensures { result ≤ length bytes.now }
 {
-    for (i, byte) in bytes.iter().enumerate() {
-        if *byte == LINE_END {
-            return i;
-        }
-    }
-    bytes.len()
+    bytes
+        .iter()
+        .position(|byte| *byte == LINE_END)
+        .unwrap_or(bytes.len())
 }
 
 impl<'a> Lines<'a> {
@@ -40,18 +38,13 @@ impl<'a> Lines<'a> {
         ensures { Shorter result (to_come self.old) (to_come self.new) }
     {
         let left = self.left;
-        if left.len() == 0 {
+        if left.is_empty() {
             return None;
         }
         let length = line_length(left);
-        let behind = if length < left.len() {
-            length + 1
-        } else {
-            length
-        };
-        self.left = &left[behind..];
+        self.left = &left[left.len().min(length + 1)..];
         self.taken += 1;
-        Some(&left[0..length])
+        Some(&left[..length])
     }
 
     // The lines up to one that is a dot, which is taken too.
@@ -62,7 +55,7 @@ impl<'a> Lines<'a> {
         let mut length = 0;
         while let Some(line) = self.next() {
             if line == b".".as_slice() {
-                return Some(&text[0..length]);
+                return Some(&text[..length]);
             }
             length = text.len() - self.left.len();
         }
