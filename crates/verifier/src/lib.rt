@@ -2,6 +2,7 @@
 #![tactic(auto)]
 
 pub mod check;
+pub mod env;
 pub mod labels;
 pub mod lookup;
 pub mod rules;
