@@ -1,5 +1,5 @@
 -- A go, turn by turn: what is still to come, from the outcome of the last step and the run as it stands.
-use Rattle.std.proofs.Common.{◌≡◌, ℕ, zero, suc, ◌+◌, ◌<◌, List, map, Ok, Err, Result, sym, refl, ap, ◌∙◌, arith}
+use Rattle.std.proofs.Common.{◌≡◌, ℕ, zero, suc, ◌+◌, List, Ok, Err, Result, sym, refl, ap, ◌∙◌, arith}
 use Rattle.semantics.specs.declared.ending.End.{End}
 use Rattle.semantics.specs.declared.ending.Ending.{Ending}
 use Rattle.semantics.specs.declared.ending.Ending.TheVariants.{StepsTaken}
@@ -11,13 +11,11 @@ use Rattle.semantics.specs.Hosts.{Reply}
 use Rattle.semantics.specs.Reading.{so}
 use Rattle.semantics.specs.Runs.{FrameDef, RunDef, idle, in_hand, onward, ended, step_of, Gone, gone, go_from}
 use Rattle.semantics.specs.Stores.{Store}
+use Rattle.machine.specs.declared.run.Frames.{Frames}
 use Rattle.machine.specs.declared.run.Run.{Run}
-use Rattle.machine.specs.declared.run.state.Outcome.{Outcome}
-use Rattle.machine.specs.declared.run.state.Outcome.TheVariants as outcome
-use Rattle.machine.specs.declared.run.state.State.TheVariants as state
-use Rattle.machine.specs.Frames.{frame_of, stacked}
-use Rattle.machine.specs.Turns.{standing, run_of, top_of, rest_of, state_of, turned, run_after}
-use Rattle.machine.proofs.Stacks.{stands}
+use Rattle.machine.specs.declared.run.Run.TheVariants as run
+use Rattle.machine.specs.declared.run.stop.Stop.{Stop}
+use Rattle.machine.specs.Turns.{top_of, rest_of, run_of, turned, run_after}
 
 go_ended : {C : Type 0} (s : Store) (reply : Reply C) (n k : ℕ) (e : Ending) (r p : ℕ) (c : C) → go_from s reply n k (ended e r p c) ≡ gone (end e k r p) idle c
 unfolding go_from
@@ -44,52 +42,30 @@ left a r c = record { answer = a; run = r; host = c }
 abbrev left_by : {C : Type 0} → Gone C → Left C
 left_by g = left (Ok g.end) g.run g.host
 
--- the run r after k steps, of which the last had the outcome o, with n steps to go
-abbrev pub on_from : {C : Type 0} → Store → Reply C → ℕ → ℕ → Outcome → RunDef → C → Left C
-on_from s reply n k o idle c = left (Err NoRunInHand) idle c
-on_from s reply n k outcome.InHand (in_hand f gs) c = left_by (go_from s reply n k (onward f gs c))
-on_from s reply n k (outcome.Ended e w p) (in_hand f gs) c = left_by (go_from s reply n k (ended e w p c))
-
--- the whole go
-pub whole_answer : {C : Type 0} (s : Store) (reply : Reply C) (n : ℕ) (r : RunDef) (c : C) → (on_from s reply n 0 outcome.InHand r c).answer ≡ so (go_run s reply n c r) (λ g. Ok g.end)
-whole_answer s reply n idle c = refl
-whole_answer s reply n (in_hand f gs) c = refl
-
-pub whole_run : {C : Type 0} (s : Store) (reply : Reply C) (n : ℕ) (r : RunDef) (c : C) → (on_from s reply n 0 outcome.InHand r c).run ≡ run_after r (go_run s reply n c r)
-whole_run s reply n idle c = refl
-whole_run s reply n (in_hand f gs) c = refl
-
-pub whole_host : {C : Type 0} (s : Store) (reply : Reply C) (n : ℕ) (r : RunDef) (c : C) → (on_from s reply n 0 outcome.InHand r c).host ≡ host_after c (go_run s reply n c r)
-whole_host s reply n idle c = refl
-whole_host s reply n (in_hand f gs) c = refl
-
-on_turned : {C : Type 0} (s : Store) (reply : Reply C) (n k : ℕ) (o : Outcome) (f : FrameDef) (gs : List FrameDef) (r : Run) (c : C) → top_of r ≡ f → rest_of r ≡ gs → on_from s reply n k o (in_hand f gs) c ≡ left_by (go_from s reply n k (turned o r c))
-on_turned s reply n k outcome.InHand f gs r c a b = λ i. left_by (go_from s reply n k (onward (sym a i) (sym b i) c))
-on_turned s reply n k (outcome.Ended e w p) f gs r c a b = refl
-
-on_standing : {C : Type 0} (s : Store) (reply : Reply C) (n k : ℕ) (o : Outcome) (r : Run) (c : C) → 0 < r.depth → on_from s reply n k o (run_of r) c ≡ left_by (go_from s reply n k (turned o r c))
-on_standing s reply n k o r c h = ap (λ q. on_from s reply n k o q c) (stands (map frame_of r.frames) r.depth h) ∙ on_turned s reply n k o (top_of r) (rest_of r) r c refl refl
-
--- a run that is in hand has a frame
-pub in_hand_some : (fs : List FrameDef) (d : ℕ) → state.InHand ≡ state_of (standing (stacked fs d)) → 0 < d
-in_hand_some fs zero e = let z : ◌≡◌ {A = ℕ} 0 1 = cc in absurd (omega arith)
-in_hand_some fs (suc d) e = omega arith
+-- the run r after k steps, of which the last answered o, with n steps to go
+abbrev pub on_from : {C : Type 0} → Store → Reply C → ℕ → ℕ → Result (Unit {0}) Stop → Run → C → Left C
+on_from s reply n k o run.Idle c = left (Err NoRunInHand) idle c
+on_from s reply n k o (run.InHand r) c = left_by (go_from s reply n k (turned o r c))
 
 -- the run ended
-pub turn_ended : {C : Type 0} (s : Store) (reply : Reply C) (n k : ℕ) (e : Ending) (w p : ℕ) (r : Run) (q : RunDef) (c : C) (all : Left C) → 0 < r.depth → q ≡ idle → on_from s reply n k (outcome.Ended e w p) (run_of r) c ≡ all → left (Ok (end e k w p)) q c ≡ all
-turn_ended s reply n k e w p r q c all h i inv =
-    ap (λ x. left (Ok (end e k w p)) x c) i ∙ sym (ap left_by (go_ended s reply n k e w p c)) ∙ sym (on_standing s reply n k (outcome.Ended e w p) r c h) ∙ inv
+pub turn_ended : {C : Type 0} (s : Store) (reply : Reply C) (n k : ℕ) (o : Result (Unit {0}) Stop) (q : Stop) (p : Run) (r : Frames) (c : C) (all : Left C) → p ≡ run.InHand r → o ≡ Err q → on_from s reply n k o p c ≡ all → left (Ok (end q.ending k q.row q.point)) idle c ≡ all
+turn_ended s reply n k o q p r c all i e inv =
+    sym (ap left_by (go_ended s reply n k q.ending q.row q.point c)) ∙ (λ j. on_from s reply n k (sym e j) (sym i j) c) ∙ inv
 
 -- the steps are taken
-pub turn_taken : {C : Type 0} (s : Store) (reply : Reply C) (n k : ℕ) (r : Run) (c : C) (all : Left C) (x : End) → 0 < r.depth → n ≡ 0 → x ≡ end StepsTaken k (top_of r).row (top_of r).point → on_from s reply n k outcome.InHand (run_of r) c ≡ all → left (Ok x) (run_of r) c ≡ all
-turn_taken s reply n k r c all x h z e inv =
-    (λ i. left (Ok (e i)) (stands (map frame_of r.frames) r.depth h i) c)
+pub turn_taken : {C : Type 0} (s : Store) (reply : Reply C) (n k : ℕ) (o : Result (Unit {0}) Stop) (u : Unit {0}) (p : Run) (r : Frames) (c : C) (all : Left C) (x : End) → p ≡ run.InHand r → o ≡ Ok u → n ≡ 0 → x ≡ end StepsTaken k (top_of r).row (top_of r).point → on_from s reply n k o p c ≡ all → left (Ok x) (in_hand (top_of r) (rest_of r)) c ≡ all
+turn_taken s reply n k o u p r c all x i e z h inv =
+    (λ j. left (Ok (h j)) (in_hand (top_of r) (rest_of r)) c)
     ∙ sym (ap left_by (ap (λ m. go_from s reply m k (onward (top_of r) (rest_of r) c)) z ∙ go_taken s reply k (top_of r) (rest_of r) c))
-    ∙ sym (on_standing s reply n k outcome.InHand r c h) ∙ inv
+    ∙ (λ j. on_from s reply n k (sym e j) (sym i j) c) ∙ inv
 
 -- one step more
-pub turn_step : {C : Type 0} (s : Store) (reply : Reply C) (n m k : ℕ) (o : Outcome) (r q : Run) (c d : C) (all : Left C) → 0 < r.depth → 0 < q.depth → n ≡ m + 1 → turned o q d ≡ step_of s reply (top_of r) (rest_of r) c → on_from s reply n k outcome.InHand (run_of r) c ≡ all → on_from s reply m (k + 1) o (run_of q) d ≡ all
-turn_step s reply n m k o r q c d all h j z e inv =
-    on_standing s reply m (k + 1) o q d j
-    ∙ ap left_by (ap (go_from s reply m (k + 1)) e ∙ sym (go_step s reply m k (top_of r) (rest_of r) c) ∙ ap (λ x. go_from s reply x k (onward (top_of r) (rest_of r) c)) (let y : suc m ≡ n = omega arith in y))
-    ∙ sym (on_standing s reply n k outcome.InHand r c h) ∙ inv
+pub turn_step : {C : Type 0} (s : Store) (reply : Reply C) (n m k : ℕ) (o v : Result (Unit {0}) Stop) (u : Unit {0}) (p : Run) (r q : Frames) (c d : C) (all : Left C) → p ≡ run.InHand r → o ≡ Ok u → n ≡ m + 1 → turned v q d ≡ step_of s reply (top_of r) (rest_of r) c → on_from s reply n k o p c ≡ all → on_from s reply m (k + 1) v (run.InHand q) d ≡ all
+turn_step s reply n m k o v u p r q c d all i e z h inv =
+    ap left_by (ap (go_from s reply m (k + 1)) h ∙ sym (go_step s reply m k (top_of r) (rest_of r) c) ∙ ap (λ x. go_from s reply x k (onward (top_of r) (rest_of r) c)) (let y : suc m ≡ n = omega arith in y))
+    ∙ (λ j. on_from s reply n k (sym e j) (sym i j) c) ∙ inv
+
+-- what a whole go comes to
+pub goes : {C : Type 0} (s : Store) (reply : Reply C) (n : ℕ) (p : Run) (c d : C) (a : Result End Refusal) (q : RunDef) → left a q d ≡ on_from s reply n 0 (Ok tt) p c → (a ≡ so (go_run s reply n c (run_of p)) (λ g. Ok g.end)) × (q ≡ run_after (run_of p) (go_run s reply n c (run_of p))) × (d ≡ host_after c (go_run s reply n c (run_of p)))
+goes s reply n run.Idle c d a q e = (ap (λ l. l.answer) e, ap (λ l. l.run) e, ap (λ l. l.host) e)
+goes s reply n (run.InHand r) c d a q e = (ap (λ l. l.answer) e, ap (λ l. l.run) e, ap (λ l. l.host) e)

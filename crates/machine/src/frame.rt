@@ -3,7 +3,7 @@ ghost use Rattle.std.specs.Prelude.{◌≡◌, ◌<◌, ◌∷◌, map};
 ghost use Rattle.semantics.specs.Items.{items_of};
 ghost use Rattle.semantics.specs.Runs.{opened, moved_to, kind_of, operand_value, put_in};
 ghost use Rattle.semantics.specs.Stores.{code_of};
-ghost use Rattle.machine.specs.Frames.{frame_of, no_frame};
+ghost use Rattle.machine.specs.Frames.{frame_of};
 
 use semantics::array_vec::ArrayVec;
 use semantics::body::Code;
@@ -48,18 +48,6 @@ fn locals_of(receiver: Value, arguments: &ArrayVec<Value, 7>) -> ArrayVec<Value,
 }
 
 impl Frame {
-    // A frame before any step.
-    pub(crate) fn blank() -> Frame
-        ensures { frame_of result ≡ no_frame }
-    {
-        Frame {
-            row: 0,
-            point: 0,
-            locals: ArrayVec::new(ZERO),
-            temporaries: ArrayVec::new(ZERO),
-        }
-    }
-
     // The first frame of a row: receiver and arguments, and temporaries of class 0 with number 0.
     pub(crate) fn opened(
         row: usize,

@@ -3,5 +3,5 @@
 
 pub mod frame;
 pub mod operations;
-pub mod rows;
 pub mod run;
+pub mod store;

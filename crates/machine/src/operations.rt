@@ -20,31 +20,31 @@ use semantics::value::{BOOL, INT, Value};
 use verifier::check::FALLING_IN;
 use verifier::labels::named_fit;
 use verifier::tests::demand;
+
+// A jump: the frame that stands at it, the labels of the frame's code, and the operation.
+#[derive(Drop)]
+pub(crate) struct Jump<'a> {
+    pub(crate) frame: &'a Frame,
+    pub(crate) labels: &'a [Label],
+    pub(crate) operation: &'a Operation,
+    ghost within: { frame.now.point < 64 },
+}
+
 // The point of a label; 0 where there is none.
 fn label_point(labels: &[Label], label: u8) -> usize
     ensures { result ≡ point_of (map label_of labels.now) label }
 {
-    let at = label as usize;
-    if at < labels.len() {
-        labels[at].point as usize
-    } else {
-        0
-    }
+    labels
+        .get(label as usize)
+        .map_or(0, |label| label.point as usize)
 }
 
 // The label of a list that a number chooses.
 fn chosen(labels: &[u8], number: i32) -> Option<u8>
     ensures { result ≡ chosen labels.now number }
 {
-    if number < 0 {
-        return None;
-    }
-    let at = number as usize;
-    if at < labels.len() {
-        Some(labels[at])
-    } else {
-        None
-    }
+    let at = usize::try_from(number).ok()?;
+    labels.get(at).copied()
 }
 
 impl Frame {
@@ -82,58 +82,46 @@ impl Frame {
         demand(table.fits(value.class, res), Misfit::ResultClass)?;
         Ok(value)
     }
+}
 
-    // Where a jump goes, once the row fits every label that the operation names.
-    pub(crate) fn jump<T: ClassTable>(
-        &self,
-        table: &T,
-        labels: &[Label],
-        operation: &Operation,
-        to: Option<u8>,
-    ) -> Result<usize, Misfit>
-        requires { self.now.point < 64 }
-        ensures { result ≡ jump_tests (T.listed table.now) (frame_of self.now) (map label_of labels.now) (op_of operation.now) to }
+impl Jump<'_> {
+    // Where the jump goes, once the row fits every label that the operation names.
+    pub(crate) fn to<T: ClassTable>(&self, table: &T, to: Option<u8>) -> Result<usize, Misfit>
+        ensures { result ≡ jump_tests (T.listed table.now) (frame_of self.now.frame.now) (map label_of self.now.labels.now) (op_of self.now.operation.now) to }
     {
-        named_fit(table, labels, self.temporaries.as_slice(), operation)?;
+        let row = self.frame.temporaries.as_slice();
+        named_fit(table, self.labels, row, self.operation)?;
         match to {
-            Some(label) => Ok(label_point(labels, label)),
-            None => Ok(self.point + 1),
+            Some(label) => Ok(label_point(self.labels, label)),
+            None => Ok(self.frame.point + 1),
         }
     }
 
-    // The same for a jump that a condition decides.
-    pub(crate) fn jump_if<T: ClassTable>(
+    // The same where a condition decides.
+    pub(crate) fn if_true<T: ClassTable>(
         &self,
         table: &T,
-        labels: &[Label],
-        operation: &Operation,
         condition: Operand,
         label: u8,
     ) -> Result<usize, Misfit>
-        requires { self.now.point < 64 }
-        ensures { result ≡ then (demand (fits (T.listed table.now) (kind_of (operand_value (frame_of self.now) condition)) bool_class) Condition) (λ _. jump_tests (T.listed table.now) (frame_of self.now) (map label_of labels.now) (op_of operation.now) (if_not_zero (operand_value (frame_of self.now) condition).number label)) }
+        ensures { result ≡ then (demand (fits (T.listed table.now) (kind_of (operand_value (frame_of self.now.frame.now) condition)) bool_class) Condition) (λ _. jump_tests (T.listed table.now) (frame_of self.now.frame.now) (map label_of self.now.labels.now) (op_of self.now.operation.now) (if_not_zero (operand_value (frame_of self.now.frame.now) condition).number label)) }
     {
-        let value = self.value(condition);
+        let value = self.frame.value(condition);
         demand(table.fits(value.class, BOOL), Misfit::Condition)?;
-        let to = if value.number == 0 { None } else { Some(label) };
-        self.jump(table, labels, operation, to)
+        self.to(table, (value.number != 0).then_some(label))
     }
 
-    // The same for a jump that a number chooses from a list.
-    pub(crate) fn jump_list<T: ClassTable>(
+    // The same where a number chooses from a list.
+    pub(crate) fn by_list<T: ClassTable>(
         &self,
         table: &T,
-        labels: &[Label],
-        operation: &Operation,
         selector: Operand,
         list: &ArrayVec<u8, 8>,
     ) -> Result<usize, Misfit>
-        requires { self.now.point < 64 }
-        ensures { result ≡ then (demand (fits (T.listed table.now) (kind_of (operand_value (frame_of self.now) selector)) int_class) Condition) (λ _. jump_tests (T.listed table.now) (frame_of self.now) (map label_of labels.now) (op_of operation.now) (chosen (items_of list.now) (operand_value (frame_of self.now) selector).number)) }
+        ensures { result ≡ then (demand (fits (T.listed table.now) (kind_of (operand_value (frame_of self.now.frame.now) selector)) int_class) Condition) (λ _. jump_tests (T.listed table.now) (frame_of self.now.frame.now) (map label_of self.now.labels.now) (op_of self.now.operation.now) (chosen (items_of list.now) (operand_value (frame_of self.now.frame.now) selector).number)) }
     {
-        let value = self.value(selector);
+        let value = self.frame.value(selector);
         demand(table.fits(value.class, INT), Misfit::Condition)?;
-        let to = chosen(list.as_slice(), value.number);
-        self.jump(table, labels, operation, to)
+        self.to(table, chosen(list.as_slice(), value.number))
     }
 }

@@ -1,22 +1,21 @@
 // The calls on a run: to begin one, and to go on with it.
 ghost use Rattle.std.specs.Prelude.{◌≡◌, Ok};
 ghost use Rattle.semantics.specs.Cards.{first_frame, go_run, host_after, start_refusal};
-ghost use Rattle.semantics.specs.Entries.{entry_of};
 ghost use Rattle.semantics.specs.Items.{items_of};
 ghost use Rattle.semantics.specs.Reading.{so};
-ghost use Rattle.semantics.specs.Stores.{code_of};
-ghost use Rattle.machine.specs.Frames.{store_of};
-ghost use Rattle.machine.specs.Turns.{run_of, entered, begun, run_after};
+ghost use Rattle.semantics.specs.Runs.{idle};
+ghost use Rattle.verifier.specs.Answers.{answered};
+ghost use Rattle.machine.specs.Frames.{frame_of, store_of};
+ghost use Rattle.machine.specs.Turns.{run_of, is_in_hand, begun, run_after};
 
-use crate::frame::kinds;
-use crate::run::Run;
-use crate::run::state::{Outcome, State};
+use crate::frame::{Frame, kinds};
+use crate::run::stop::Stop;
+use crate::run::{Frames, Run};
+use crate::store::Store;
 use classes::table::ClassTable;
 use hosts::host::Host;
 use semantics::array_vec::ArrayVec;
-use semantics::body::{Body, Code};
-use semantics::ending::End;
-use semantics::entry::Entry;
+use semantics::ending::{End, Ending};
 use semantics::misfit::Misfit;
 use semantics::refusal::Refusal;
 use semantics::value::Value;
@@ -33,87 +32,79 @@ fn start_refusal(misfit: Misfit) -> Refusal
     }
 }
 
+// The first frame of the row that a name means on the receiver, where the row has code and takes the arguments.
+fn first_frame<T: ClassTable>(
+    store: &Store<'_, T>,
+    receiver: Value,
+    name: u8,
+    arguments: &ArrayVec<Value, 7>,
+) -> Result<Frame, Refusal>
+    ensures { answered frame_of result ≡ first_frame (store_of T.listed store.now) receiver name (items_of arguments.now) }
+{
+    let env = &store.env;
+    let Some(row) = lookup(env.table, env.entries, receiver.class, name) else {
+        return Err(Refusal::StartNoRow);
+    };
+    let code = store.code_at(row).ok_or(Refusal::NativeRow)?;
+    let given = kinds(arguments);
+    taking(env.table, &env.entries[row], given.as_slice()).map_err(start_refusal)?;
+    Ok(Frame::opened(row, code, receiver, arguments))
+}
+
 impl Run {
-    // The first frame of a coded row, where the row takes the arguments.
-    fn enter<T: ClassTable>(
-        &mut self,
-        table: &T,
-        entry: &Entry,
-        row: usize,
-        code: &Code,
-        receiver: Value,
-        arguments: &ArrayVec<Value, 7>,
-    ) -> Result<(), Refusal>
-        ensures answer { result ≡ so (entered (T.listed table.now) (entry_of entry.now) row (code_of code.now) receiver (items_of arguments.now)) (λ _. Ok tt) }
-        ensures run { run_of self.new ≡ begun (run_of self.old) (entered (T.listed table.now) (entry_of entry.now) row (code_of code.now) receiver (items_of arguments.now)) }
+    pub fn idle() -> Run
+        ensures { run_of result ≡ idle }
     {
-        let given = kinds(arguments);
-        match taking(table, entry, given.as_slice()) {
-            Ok(()) => {
-                self.start(row, code, receiver, arguments);
-                Ok(())
-            }
-            Err(misfit) => Err(start_refusal(misfit)),
-        }
+        Run::Idle
+    }
+
+    pub fn in_hand(&self) -> bool
+        ensures { result ≡ is_in_hand (run_of self.now) }
+    {
+        matches!(self, Run::InHand(_))
     }
 
     // The first frame of the row that a name means on the receiver, in the place of any run before.
     pub fn begin<T: ClassTable>(
         &mut self,
-        table: &T,
-        entries: &[Entry],
-        bodies: &[Body],
+        store: &Store<'_, T>,
         receiver: Value,
         name: u8,
         arguments: &ArrayVec<Value, 7>,
     ) -> Result<(), Refusal>
-        ensures answer { result ≡ so (first_frame (store_of (T.listed table.now) entries.now bodies.now) receiver name (items_of arguments.now)) (λ _. Ok tt) }
-        ensures run { run_of self.new ≡ begun (run_of self.old) (first_frame (store_of (T.listed table.now) entries.now bodies.now) receiver name (items_of arguments.now)) }
+        ensures answer { result ≡ so (first_frame (store_of T.listed store.now) receiver name (items_of arguments.now)) (λ _. Ok tt) }
+        ensures run { run_of self.new ≡ begun (run_of self.old) (first_frame (store_of T.listed store.now) receiver name (items_of arguments.now)) }
     {
-        let Some(row) = lookup(table, entries, receiver.class, name) else {
-            return Err(Refusal::StartNoRow);
-        };
-        if row >= bodies.len() {
-            return Err(Refusal::NativeRow);
-        }
-        match &bodies[row] {
-            Body::Native => Err(Refusal::NativeRow),
-            Body::Coded(code) => self.enter(table, &entries[row], row, code, receiver, arguments),
-        }
+        let frame = first_frame(store, receiver, name, arguments)?;
+        *self = Run::InHand(Frames::of(frame));
+        Ok(())
     }
 
     // At most `steps` steps. Only steps taken leaves the run in hand.
     pub fn go<T: ClassTable, H: Host>(
         &mut self,
-        table: &T,
-        entries: &[Entry],
-        bodies: &[Body],
+        store: &Store<'_, T>,
         host: &mut H,
         steps: usize,
     ) -> Result<End, Refusal>
-        ensures answer { result ≡ so (go_run (store_of (T.listed table.now) entries.now bodies.now) H.reply steps (H.condition host.old) (run_of self.old)) (λ g. Ok g.end) }
-        ensures run { run_of self.new ≡ run_after (run_of self.old) (go_run (store_of (T.listed table.now) entries.now bodies.now) H.reply steps (H.condition host.old) (run_of self.old)) }
-        ensures host { H.condition host.new ≡ host_after (H.condition host.old) (go_run (store_of (T.listed table.now) entries.now bodies.now) H.reply steps (H.condition host.old) (run_of self.old)) }
+        ensures answer { result ≡ so (go_run (store_of T.listed store.now) H.reply steps (H.condition host.old) (run_of self.old)) (λ g. Ok g.end) }
+        ensures run { run_of self.new ≡ run_after (run_of self.old) (go_run (store_of T.listed store.now) H.reply steps (H.condition host.old) (run_of self.old)) }
+        ensures host { H.condition host.new ≡ host_after (H.condition host.old) (go_run (store_of T.listed store.now) H.reply steps (H.condition host.old) (run_of self.old)) }
     {
         let mut taken = 0;
-        let mut outcome = Outcome::InHand;
+        let mut outcome: Result<(), Stop> = Ok(());
         loop {
-            match (self.state(), outcome) {
-                (State::Idle, _) => return Err(Refusal::NoRunInHand),
-                (State::InHand, Outcome::Ended { ending, row, point }) => {
-                    self.stop();
-                    return Ok(End {
-                        ending,
-                        steps: taken,
-                        row,
-                        point,
-                    });
+            match (&mut *self, outcome) {
+                (Run::Idle, _) => return Err(Refusal::NoRunInHand),
+                (Run::InHand(_), Err(stop)) => {
+                    *self = Run::Idle;
+                    return Ok(stop.end(taken));
                 }
-                (State::InHand, Outcome::InHand) => {
+                (Run::InHand(frames), Ok(())) => {
                     if taken == steps {
-                        return Ok(self.steps_taken(taken));
+                        return Ok(frames.stop(Ending::StepsTaken).end(taken));
                     }
-                    outcome = self.step(table, entries, bodies, host);
+                    outcome = frames.step(store, host);
                     taken += 1;
                 }
             }
