@@ -7,7 +7,7 @@ use Rattle.semantics.specs.Cards.{all_small, signature, signature_in_range}
 use Rattle.semantics.specs.Form.{must}
 use Rattle.semantics.specs.Items.{pushed}
 use Rattle.semantics.specs.Reading.{so}
-use Rattle.filler.proofs.Joining.{pushed_on}
+use Rattle.semantics.proofs.Items.{pushed_on}
 
 and_false : (a b : Bool) → a ≡ false → (a && b) ≡ false
 and_false a b e = ap (λ x. x && b) e

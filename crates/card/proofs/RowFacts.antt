@@ -8,7 +8,7 @@ use Rattle.semantics.specs.declared.body.Code.{Code}
 use Rattle.semantics.specs.Items.{items_of, pushed}
 use Rattle.semantics.specs.Methods.{op_of}
 use Rattle.semantics.specs.Stores.{body_of, points_in, points_of}
-use Rattle.filler.proofs.Joining.{pushed_on}
+use Rattle.semantics.proofs.Items.{pushed_on}
 
 -- both lists of a row take one more, or none does
 pub both_longer : {X Y : Type 0} (n : ℕ) (xs xs' : List X) (ys ys' : List Y) (x : X) (y : Y) → length xs ≡ length ys → xs' ≡ pushed n xs x → ys' ≡ pushed n ys y → length xs' ≡ length ys'

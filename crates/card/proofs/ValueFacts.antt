@@ -15,7 +15,7 @@ use Rattle.semantics.specs.Reading.{so}
 use Rattle.semantics.specs.Runs.{kind_of}
 use Rattle.semantics.specs.Tree.{present}
 use Rattle.semantics.proofs.Walks.{walk_step}
-use Rattle.filler.proofs.Joining.{pushed_on}
+use Rattle.semantics.proofs.Items.{pushed_on}
 use Rattle.card.specs.Openings.{opening, opened}
 
 -- a test that was passed, and one that was not

@@ -8,6 +8,7 @@ use semantics::entry::Entry;
 
 pub mod kept;
 
+// Two lists, and not one of pairs: lookups, the check and filling take the entries as one slice.
 #[derive(Clone, Copy)]
 pub struct Rows {
     entries: ArrayVec<Entry, 64>,

@@ -1,6 +1,6 @@
 // What a start is handed, brought into its range.
 ghost use Rattle.std.specs.Prelude.{◌≡◌, ◌&&◌, ◌∷◌, map, length, Ok, nat_le};
-ghost use Rattle.semantics.specs.declared.refusal.Refusal.TheVariants.{ArgumentOutOfRange, ClassAbsent};
+ghost use Rattle.semantics.specs.declared.refusal.Refusal.TheVariants.{ArgumentOutOfRange};
 ghost use Rattle.semantics.specs.Cards.{numbers_in_range, taken};
 ghost use Rattle.semantics.specs.Form.{must};
 ghost use Rattle.semantics.specs.Hosts.{in_range};
@@ -8,7 +8,6 @@ ghost use Rattle.semantics.specs.Items.{items_of};
 ghost use Rattle.semantics.specs.NewRows.{classes_present};
 ghost use Rattle.semantics.specs.Reading.{so};
 ghost use Rattle.semantics.specs.Runs.{kind_of};
-ghost use Rattle.semantics.specs.Tree.{present};
 ghost use Rattle.verifier.specs.Answers.{answered};
 ghost use Rattle.card.specs.Openings.{opening_of, opened};
 
@@ -18,10 +17,7 @@ use semantics::array_vec::ArrayVec;
 use semantics::call::Offered;
 use semantics::refusal::Refusal;
 use semantics::value::Value;
-
-const MIN_NUMBER: i64 = -2147483648;
-
-const MAX_NUMBER: i64 = 2147483647;
+use verifier::rules::{all_present, present};
 
 // The receiver, name and arguments of a start.
 #[derive(Clone, Copy)]
@@ -37,13 +33,13 @@ fn value_of(offered: Offered) -> Result<Value, Refusal>
     if offered.class > MAX_CLASS {
         return Err(Refusal::ArgumentOutOfRange);
     }
-    if offered.number < MIN_NUMBER || offered.number > MAX_NUMBER {
-        return Err(Refusal::ArgumentOutOfRange);
+    match i32::try_from(offered.number) {
+        Ok(number) => Ok(Value {
+            class: offered.class as u8,
+            number,
+        }),
+        Err(_) => Err(Refusal::ArgumentOutOfRange),
     }
-    Ok(Value {
-        class: offered.class as u8,
-        number: offered.number as i32,
-    })
 }
 
 fn values_of(offered: &[Offered]) -> Result<ArrayVec<Value, 7>, Refusal>
@@ -85,26 +81,6 @@ impl Opening {
         ensures { result ≡ classes_present (T.listed table.now) 0 (map kind_of (self.now.receiver ∷ items_of self.now.arguments)) }
     {
         present(table, 0, self.receiver.class)?;
-        arguments_present(table, self.arguments.as_slice())
-    }
-}
-
-// The classes of a start's arguments, which have the places from 1 on.
-fn arguments_present<T: ClassTable>(table: &T, values: &[Value]) -> Result<(), Refusal>
-    ensures { result ≡ classes_present (T.listed table.now) 1 (map kind_of values.now) }
-{
-    for (i, value) in values.iter().enumerate() {
-        present(table, 1 + i, value.class)?;
-    }
-    Ok(())
-}
-
-fn present<T: ClassTable>(table: &T, place: usize, class: u8) -> Result<(), Refusal>
-    ensures { result ≡ must (present (T.listed table.now) class) (ClassAbsent place) }
-{
-    if class < table.count() {
-        Ok(())
-    } else {
-        Err(Refusal::ClassAbsent { place })
+        all_present(table, 1, self.arguments.as_slice())
     }
 }

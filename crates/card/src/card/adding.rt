@@ -22,8 +22,8 @@ use semantics::method::Method;
 use semantics::refusal::Refusal;
 use text::form::form;
 use text::read::read;
-use verifier::check::check;
-use verifier::rules::{entry_in, entry_rules, method_rules, room_for};
+use verifier::env::Env;
+use verifier::rules::{entry_in, room_for};
 
 impl<T: ClassTable> Card<T> {
     pub fn blank(kind: Kind) -> Card<T>
@@ -69,7 +69,7 @@ impl<T: ClassTable> Card<T> {
         ensures room { OnOk result (length (items_of self.now.rows.entries) < 64) }
     {
         let entry = entry_of(class, name, arguments, res)?;
-        entry_rules(&self.table, self.rows.entries(), &entry)?;
+        self.rows.env(&self.table).entry_rules(&entry)?;
         room_for(self.rows.len(), self.rows.points(), 0)?;
         Ok(entry)
     }
@@ -97,7 +97,11 @@ impl<T: ClassTable> Card<T> {
         match self.kind {
             Kind::Issue => {
                 let known = with_entry(self.rows.entries(), entry_in(method))?;
-                check(&self.table, known.as_slice(), method)
+                let env = Env {
+                    table: &self.table,
+                    entries: known.as_slice(),
+                };
+                env.check(method)
             }
             Kind::Bench => Ok(()),
         }
@@ -110,7 +114,7 @@ impl<T: ClassTable> Card<T> {
     {
         let method = read(text)?;
         form(&method)?;
-        method_rules(&self.table, self.rows.entries(), &method)?;
+        self.rows.env(&self.table).method_rules(&method)?;
         room_for(self.rows.len(), self.rows.points(), method.code.len())?;
         self.checked(&method)?;
         Ok(method)

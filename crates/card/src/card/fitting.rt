@@ -10,26 +10,18 @@ impl<T: ClassTable> Card<T> {
     pub fn fits(&self, a: u32, b: u32) -> bool
         ensures { result ≡ fits (card_of T.listed self.now).store.classes a b }
     {
-        let count = u32::from(self.table.count());
-        if a >= count {
-            return false;
+        match (u8::try_from(a), u8::try_from(b)) {
+            (Ok(a), Ok(b)) => self.table.fits(a, b),
+            _ => false,
         }
-        if b >= count {
-            return false;
-        }
-        self.table.fits(a as u8, b as u8)
     }
 
     pub fn join(&self, a: u32, b: u32) -> u32
         ensures { result ≡ join (card_of T.listed self.now).store.classes a b }
     {
-        let count = u32::from(self.table.count());
-        if a >= count {
-            return 0;
+        match (u8::try_from(a), u8::try_from(b)) {
+            (Ok(a), Ok(b)) => u32::from(self.table.join(a, b)),
+            _ => 0,
         }
-        if b >= count {
-            return 0;
-        }
-        u32::from(self.table.join(a as u8, b as u8))
     }
 }

@@ -38,14 +38,9 @@ impl<T: ClassTable> Card<T> {
         self.free()?;
         let opening = Opening::of(receiver, name, arguments)?;
         opening.present(&self.table)?;
-        self.run.begin(
-            &self.table,
-            self.rows.entries(),
-            self.rows.bodies(),
-            opening.receiver,
-            opening.name,
-            &opening.arguments,
-        )
+        let store = self.rows.store(&self.table);
+        self.run
+            .begin(&store, opening.receiver, opening.name, &opening.arguments)
     }
 
     // At most `steps` steps of the run in hand.
@@ -57,12 +52,7 @@ impl<T: ClassTable> Card<T> {
         if steps > MAX_STEPS {
             return Err(Refusal::ArgumentOutOfRange);
         }
-        self.run.go(
-            &self.table,
-            self.rows.entries(),
-            self.rows.bodies(),
-            host,
-            steps as usize,
-        )
+        let store = self.rows.store(&self.table);
+        self.run.go(&store, host, steps as usize)
     }
 }

@@ -18,7 +18,7 @@ impl<T: ClassTable> Card<T> {
         ensures after { buffer.new ≡ fill_into (card_of T.listed self.now) text.now buffer.old }
         ensures bound { IfOk result (λ x. x.0 ≤ length buffer.old) }
     {
-        fill(&self.table, self.rows.entries(), text, buffer)
+        fill(&self.rows.env(&self.table), text, buffer)
     }
 
     // The text of a row's method; answers its length.
@@ -28,12 +28,10 @@ impl<T: ClassTable> Card<T> {
         ensures bound { IfOk result (λ n. n ≤ length buffer.old) }
     {
         let row = row as usize;
-        if row >= self.rows.len() {
-            return Err(Refusal::NoSuchRow);
-        }
-        match self.rows.body(row) {
+        let entry = self.rows.entries().get(row).ok_or(Refusal::NoSuchRow)?;
+        match &self.rows.bodies()[row] {
             Body::Native => Err(Refusal::NativeRow),
-            Body::Coded(code) => write(&method_with(&self.rows.entry(row), &code), buffer),
+            Body::Coded(code) => write(&method_with(entry, code), buffer),
         }
     }
 }

@@ -6,10 +6,12 @@ ghost use Rattle.semantics.specs.Methods.{method_of};
 ghost use Rattle.semantics.specs.Stores.{body_of, native, no_entry, code_in, code_of, method_with, points_in, points_of};
 
 use crate::rows::Rows;
+use machine::store::Store;
 use semantics::array_vec::ArrayVec;
 use semantics::body::{Body, Code};
 use semantics::entry::Entry;
 use semantics::method::Method;
+use verifier::env::Env;
 
 // The points of a row's code.
 fn points_in(body: &Body) -> usize
@@ -83,24 +85,33 @@ impl Rows {
         self.bodies.as_slice()
     }
 
+    // What methods are checked in, over a table of classes.
+    pub fn env<'a, T>(&'a self, table: &'a T) -> Env<'a, T>
+        ensures table { result.table.now ≡ table.now }
+        ensures entries { result.entries.now ≡ items_of self.now.entries }
+    {
+        Env {
+            table,
+            entries: self.entries.as_slice(),
+        }
+    }
+
+    // What methods are run on, over a table of classes.
+    pub fn store<'a, T>(&'a self, table: &'a T) -> Store<'a, T>
+        ensures table { result.env.table.now ≡ table.now }
+        ensures entries { result.env.entries.now ≡ items_of self.now.entries }
+        ensures bodies { result.bodies.now ≡ items_of self.now.bodies }
+    {
+        Store {
+            env: self.env(table),
+            bodies: self.bodies.as_slice(),
+        }
+    }
+
     pub fn len(&self) -> usize
         ensures { result ≡ length (items_of self.now.entries) }
     {
         self.entries.len()
-    }
-
-    // The entry of that row.
-    pub fn entry(&self, row: usize) -> Entry
-        ensures { entry_of result ≡ slice_index_or (map entry_of (items_of self.now.entries)) row no_entry }
-    {
-        self.entries.get_or(row, no_entry())
-    }
-
-    // What is behind that row.
-    pub fn body(&self, row: usize) -> Body
-        ensures { body_of result ≡ slice_index_or (map body_of (items_of self.now.bodies)) row native }
-    {
-        self.bodies.get_or(row, Body::Native)
     }
 
     // All points of code together.
