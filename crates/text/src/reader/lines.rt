@@ -69,7 +69,11 @@ impl<'a> Reader<'a> {
     }
 
     // What `read` finds in the value of the next line.
-    fn value<T, F: FnOnce(Part<'a>) -> Result<T, Fault>>(&mut self, word: &[u8], read: F) -> Result<T, Refusal>
+    fn value<T, F: FnOnce(Part<'a>) -> Result<T, Fault>>(
+        &mut self,
+        word: &[u8],
+        read: F,
+    ) -> Result<T, Refusal>
         requires no_end { up_to 10 word.now ≡ length word.now }
         requires callable { F.IsAlwaysCallable read }
         ensures { GivesLine (F.post read) word.now (left_of self.old) result (left_of self.new) }

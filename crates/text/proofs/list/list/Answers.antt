@@ -1,4 +1,4 @@
-use Rattle.std.proofs.Common.{◌≡◌, suc, ◌+◌, ◌≤◌, length, IfOk, sym, ap, ◌∙◌, subst, rules}
+use Rattle.std.proofs.Common.{◌≡◌, suc, ◌+◌, ◌≤◌, length, IfOk, sym, ap, subst, rules}
 use Rattle.semantics.specs.Items.{items_of}
 use Rattle.semantics.specs.Values.{mapped}
 use Rattle.text.specs.Parts.{piece_of, parts_left}
