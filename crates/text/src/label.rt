@@ -12,7 +12,7 @@ use semantics::array_vec::ArrayVec;
 use semantics::method::Label;
 use semantics::refusal::Fault;
 
-const MAX_ARGUMENTS: usize = 7;
+pub const MAX_ARGUMENTS: usize = 7;
 
 // The argument classes that the value of an args line says.
 pub fn read_arguments(value: Part<'_>) -> Result<ArrayVec<u8, 7>, Fault>

@@ -30,15 +30,7 @@ third c =
     ∙ mapped_twice label _ (both c.read-point.result c.read_row-row.result)
     ∙ ap (mapped labelled) (sym c.both.ensures)
 
-pub returns-in_err-end : goal.returns-in_err-end
-returns-in_err-end c =
-    ap (mapped label_of) (exits c.from_residual-in_err-end.result _ c.from_residual-in_err-end.ensures.1)
-    ∙ sym (second (goal.at.returns-in_err-end c).In_ok-next_part-2 ∙ end_err c.in_err-end.field-0.0 (parts_left c.next_part-2.new.self) _ c.in_err-end.ensures)
-
 pub returns-in_err-point : goal.returns-in_err-point
 returns-in_err-point c =
     ap (mapped label_of) (exits c.from_residual-in_err-point.result _ c.from_residual-in_err-point.ensures.1)
     ∙ ap (mapped labelled) (sym c.in_err-point.was) ∙ sym (third (goal.at.returns-in_err-point c).After-both)
-
-pub returns : goal.returns
-returns c = ap (mapped labelled) (sym c.in_ok-point.was) ∙ sym (third (goal.at.returns c).After-both)
