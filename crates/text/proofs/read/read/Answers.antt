@@ -18,7 +18,7 @@ abbrev rest_of : Read Head → Result MethodDef Refusal
 rest_of h = so (labels_on 16 h.said.temporaries [] h.left) (body_of h.said)
 
 first : (c : In_ok-head) → method_in c.args.text.now ≡ rest_of (read (head_of c.in_ok-head.head) (left_of c.read_head.new.reader))
-first c = ap (λ v. so (head_at v) rest_of) (sym c.new-reader.ensures) ∙ ap (λ r. so r rest_of) (sym c.in_ok-head.ensures.value)
+first c = ap (λ v. so (head_at v) rest_of) (sym c.new-reader.ensures) ∙ ap (λ r. so r rest_of) (sym c.in_ok-head.ensures)
 
 second : (c : In_ok-labels) → rest_of (read (head_of c.in_ok-head.head) (left_of c.read_head.new.reader)) ≡ body_of (head_of c.in_ok-head.head) (read (labels_of c.in_ok-labels.labels) (left_of c.read_labels.new.reader))
 second c = ap (λ r. so r (body_of (head_of c.in_ok-head.head))) (sym c.in_ok-labels.ensures)
@@ -26,7 +26,7 @@ second c = ap (λ r. so r (body_of (head_of c.in_ok-head.head))) (sym c.in_ok-la
 pub returns-in_err-head-clause-value : goal.returns-in_err-head-clause-value
 returns-in_err-head-clause-value c =
     ap (saying_as method_of) (exits c.from_residual.result _ c.from_residual.ensures.1)
-    ∙ ap (λ r. so r rest_of) c.in_err-head.ensures.value ∙ ap (λ v. so (head_at v) rest_of) c.new-reader.ensures
+    ∙ ap (λ r. so r rest_of) c.in_err-head.ensures ∙ ap (λ v. so (head_at v) rest_of) c.new-reader.ensures
 
 pub returns-clause-only : goal.returns-clause-only
 returns-clause-only c =

@@ -20,7 +20,7 @@ pub returns-then-is_done : goal.returns-then-is_done
 returns-then-is_done c =
     let n = length (items_of c.loop-code.code) in
     let room : n < 64 = omega arith in
-    let p = push_as op_of 64 n (items_of c.loop-code.code) (items_of c.push.new.self) c.in_ok-operation.field-0 c.push.ensures.after refl room in
+    let p = push_as op_of 64 (items_of c.loop-code.code) (items_of c.push.new.self) c.in_ok-operation.field-0 c.push.ensures.after room in
     code_done n (code_of c.loop-code.code) (code_of c.push.new.self) (op_of c.in_ok-operation.field-0) (left_of c.loop-code.reader) (left_of c.operation.new.self) _
     room c.in_ok-operation.ensures p.0 c.if-is_done.ensures c.loop-code.invariant.0
 
@@ -28,7 +28,7 @@ pub loop-code-preserved : goal.loop-code-preserved
 loop-code-preserved c =
     let n = length (items_of c.loop-code.code) in
     let room : n < 64 = omega arith in
-    let p = push_as op_of 64 n (items_of c.loop-code.code) (items_of c.push.new.self) c.in_ok-operation.field-0 c.push.ensures.after refl room in (
+    let p = push_as op_of 64 (items_of c.loop-code.code) (items_of c.push.new.self) c.in_ok-operation.field-0 c.push.ensures.after room in (
       ap (λ k. code_on (64 - k) (code_of c.push.new.self) (left_of c.operation.new.self)) p.1
           ∙ code_turn n (code_of c.loop-code.code) (code_of c.push.new.self) (op_of c.in_ok-operation.field-0) (left_of c.loop-code.reader) (left_of c.operation.new.self) _
           room c.in_ok-operation.ensures p.0 c.if-is_done.ensures c.loop-code.invariant.0,
