@@ -15,8 +15,8 @@ pub fewer : (n i : ℕ) → i < n → n - i ≡ suc (n - (i + 1))
 fewer n i h = omega arith
 
 -- an item that was pushed, by its meaning f
-pub push_as : {X Y : Type 0} (f : X → Y) (n i : ℕ) (xs ys : List X) (x : X) → ys ≡ pushed n xs x → length xs ≡ i → i < n → (map f ys ≡ map f xs ++ f x ∷ []) × (length ys ≡ i + 1)
-push_as f n i xs ys x e l h =
+pub push_as : {X Y : Type 0} (f : X → Y) (n : ℕ) (xs ys : List X) (x : X) → ys ≡ pushed n xs x → length xs < n → (map f ys ≡ map f xs ++ f x ∷ []) × (length ys ≡ length xs + 1)
+push_as f n xs ys x e h =
     let p : ys ≡ xs ++ x ∷ [] = e ∙ cond-true _ _ _ (lt-ltb (length xs) n (omega arith)) in
     (ap (map f) p ∙ map-append f xs (x ∷ []), omega (arith, ap length p ∙ length_push xs x))
 

@@ -1,9 +1,8 @@
 -- A list read part by part.
-use Rattle.std.proofs.Common.{◌≡◌, ℕ, suc, ◌+◌, ◌≤◌, List, [], ◌∷◌, length, IfOk, Some, Ok, Err, sym, ap, ◌∙◌, arith}
+use Rattle.std.proofs.Common.{◌≡◌, ℕ, suc, ◌+◌, ◌≤◌, List, ◌∷◌, length, IfOk, Ok, Err, sym, ap, ◌∙◌, arith}
 use Rattle.std.proofs.lemmas.List.{length_push}
 use Rattle.semantics.specs.Pieces.{Piece}
 use Rattle.semantics.specs.Values.{Said, mapped, appended, list_on}
-use Rattle.text.specs.Parts.{first, rest}
 
 -- the next part is the first of those that are left
 pub turn : {X : Type 0} (says : Piece → Said X) (acc acc' all : Said (List X)) (item : Said X) (v : Piece) (L L' : List Piece) → L ≡ v ∷ L' → item ≡ says v → acc' ≡ appended acc item → list_on says acc L ≡ all → list_on says acc' L' ≡ all

@@ -5,9 +5,9 @@ use Rattle.semantics.specs.declared.refusal.Fault.{Fault}
 use Rattle.semantics.specs.declared.refusal.Fault.TheVariants.{Malformed, OutOfRange}
 use Rattle.semantics.specs.declared.operation.Operand.{Operand}
 use Rattle.semantics.specs.declared.operation.Destination.{Destination}
-use Rattle.semantics.specs.Methods.{Op, return, jump, jump_if, jump_list}
+use Rattle.semantics.specs.Methods.{Op, return, jump_if, jump_list}
 use Rattle.semantics.specs.Pieces.{Piece, parted}
-use Rattle.semantics.specs.Values.{Said, mapped, both, list_on, list_of, number_at, operand_at, destination_at, return_of, jump_of, jump_if_of, jump_list_of, invocation, invoke_of, label, row_at, label_parts, lettered, operation_of, operation_at}
+use Rattle.semantics.specs.Values.{Said, mapped, both, list_on, list_of, number_at, operand_at, destination_at, return_of, jump_if_of, jump_list_of, invocation, invoke_of, label, row_at, label_parts, lettered, operation_of, operation_at}
 use Rattle.text.specs.Parts.{taken, rest, ended}
 
 -- a part that is due, and then what is said of it and of the parts behind it
@@ -76,6 +76,7 @@ operation_by v u L L' l e r n = ap operation_of (sym l) ∙ by L e r ∙ ap (λ 
     by : (L : List Piece) → Ok u ≡ taken L → L' ≡ rest L → operation_of L ≡ lettered u.held L'
     by [] e r = let z : ◌≡◌ {A = ℕ} 0 1 = cc in absurd (omega arith)
     by (w ∷ ws) e r = let k : w ≡ u = cc in λ i. lettered (k i).held (sym r i)
+
     one : (s : List ℕ) → length s ≡ 1 → s ≡ get_or s 0 0 ∷ []
     one [] n = absurd (omega arith)
     one (c ∷ []) n = refl

@@ -1,20 +1,20 @@
 -- The words that lines begin with, and the lines themselves.
-use Rattle.std.proofs.Common.{◌≡◌, ℕ, suc, ◌+◌, ◌<◌, Bool, true, false, ◌&&◌, cond, eqb, ltb, List, [], ◌∷◌, length, take, drop, Option, Some, None, Ok, Err, Result, IsErrAnd, sym, refl, ap, ◌∙◌, subst, ⊎_elim, arith}
+use Rattle.std.proofs.Common.{◌≡◌, ℕ, suc, ◌+◌, Bool, true, false, ◌&&◌, cond, eqb, ltb, List, [], ◌∷◌, length, take, drop, Option, Some, None, Ok, Err, Result, IsErrAnd, sym, refl, ap, ◌∙◌, subst, ⊎_elim, arith}
 use Rattle.std.specs.List.{starts_with}
 use Rattle.std.specs.Option.{ok_or}
 use Rattle.std.specs.Result.{MatchResult}
 use Rattle.std.proofs.lemmas.Result.{err_from_is_err_and}
 use Rattle.std.proofs.lemmas.Cmp.{nat_list_eq_equiv}
 use lib.Pointwise.{pointwise}
-use Rattle.std.proofs.lemmas.Bool.{and_left, and_right, and_parts, eqb-true, ne_eqb, cases_Bool, cond-true, cond-false, false≢true}
+use Rattle.std.proofs.lemmas.Bool.{and_left, eqb-true, ne_eqb, cases_Bool, cond-true, cond-false, false≢true}
 use Rattle.semantics.specs.declared.refusal.Fault.{Fault}
 use Rattle.semantics.specs.declared.refusal.Refusal.{Refusal}
 use Rattle.semantics.specs.declared.refusal.Refusal.TheVariants.{Line}
 use Rattle.semantics.specs.Pieces.{Piece, piece, up_to}
-use Rattle.semantics.specs.Reading.{read, so, begins, is_line, value_in, behind, refused, said_in, line}
-use Rattle.semantics.specs.Values.{Said, mapped}
+use Rattle.semantics.specs.Reading.{begins, value_in, behind, refused, said_in}
+use Rattle.semantics.specs.Values.{Said}
 use Rattle.text.specs.declared.part.Part.{Part}
-use Rattle.text.specs.Lines.{piece_read, line_of, GivesLine, read_as, itself}
+use Rattle.text.specs.Lines.{piece_read, line_of, GivesLine}
 use Rattle.text.specs.Parts.{piece_of, piece_in, cut, behind_word}
 
 -- a word in front
@@ -76,27 +76,6 @@ read_or None e = refl
 
 pub line_value : (w : List ℕ) (v u l : Piece) (r : Option Part) (t : Result Part Refusal) → up_to 10 w ≡ length w → Some (u, l) ≡ cut 10 v → piece_in r ≡ behind_word w u → t ≡ ok_or r (Line v.place) → piece_read t ≡ line_of w v
 line_value w v u l r t h e b is = ap piece_read is ∙ read_or r (Line v.place) ∙ ap (λ x. ok_or x (Line v.place)) b ∙ line_cut w v u l h e
-
--- a line whose value was read, and one that was not found
-line_by : {X : Type 0} (w : List ℕ) (says : Piece → Said X) (v : Piece) → line w says v ≡ so (line_of w v) (λ u. so (said_in u.place (says u)) (λ x. Ok (read x (behind v))))
-line_by w says v = ⊎_elim
-    (λ t. cond-true _ _ _ t ∙ sym (ap (λ r. so r (λ (u : Piece). so (said_in u.place (says u)) (λ x. Ok (read x (behind v))))) (cond-true _ _ _ t)))
-    (λ f. cond-false _ _ _ f ∙ sym (ap (λ r. so r (λ (u : Piece). so (said_in u.place (says u)) (λ x. Ok (read x (behind v))))) (cond-false _ _ _ f)))
-    (cases_Bool (is_line w v.held))
-
-said_as : {X Y : Type 0} (f : X → Y) (at : ℕ) (s : Said X) (v : Piece) → read_as f (said_in at s) v ≡ so (said_in at (mapped f s)) (λ x. Ok (read x v))
-said_as f at (Ok x) v = refl
-said_as f at (Err e) v = refl
-
-line_said : {X Y : Type 0} (f : X → Y) (w : List ℕ) (says : Piece → Said Y) (u v v' : Piece) (s : Said X) → Ok u ≡ line_of w v → v' ≡ behind v → mapped f s ≡ says u → read_as f (said_in u.place s) v' ≡ line w says v
-line_said f w says u v v' s found left value =
-    said_as f u.place s v'
-    ∙ (λ i. so (said_in u.place (value i)) (λ x. Ok (read x (left i))))
-    ∙ ap (λ r. so r (λ (q : Piece). so (said_in q.place (says q)) (λ x. Ok (read x (behind v))))) found
-    ∙ sym (line_by w says v)
-
-line_refused : {Y : Type 0} (w : List ℕ) (says : Piece → Said Y) (v : Piece) (e : Refusal) → Err e ≡ line_of w v → Err e ≡ line w says v
-line_refused w says v e found = ap (λ r. so r (λ (q : Piece). so (said_in q.place (says q)) (λ x. Ok (read x (behind v))))) found ∙ sym (line_by w says v)
 
 -- the line that a reader gives
 pub said_by : {X : Type 0} (Told : Fault → Refusal → Type 0) (at : ℕ) (s : Said X) (r : Result X Refusal) → MatchResult s (λ x. r ≡ Ok x) (λ f. IsErrAnd r (Told f)) → ((f : Fault) (d : Refusal) → Told f d → d ≡ refused at f) → r ≡ said_in at s

@@ -2,7 +2,7 @@
 use Rattle.std.specs.Prelude.{◌≡◌, ℕ, cond, List, Ok, Err, Result, MatchResult}
 use Rattle.semantics.specs.declared.refusal.Refusal.{Refusal}
 use Rattle.semantics.specs.declared.refusal.Refusal.TheVariants.{Line}
-use Rattle.semantics.specs.Pieces.{Piece, piece}
+use Rattle.semantics.specs.Pieces.{Piece}
 use Rattle.semantics.specs.Reading.{Read, read, is_line, value_in, behind, said_in}
 use Rattle.semantics.specs.Values.{Said}
 use Rattle.text.specs.declared.part.Part.{Part}

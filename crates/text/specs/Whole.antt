@@ -10,7 +10,7 @@ use Rattle.semantics.specs.Reading as reading
 use Rattle.text.specs.declared.read.Head.{Head}
 
 abbrev pub head_of : Head → reading.Head
-head_of h = reading.head_of h.class h.name (items_of h.arguments) h.result h.temporaries
+head_of h = reading.head_of h.class h.name (items_of h.arguments) h.result h.temporaries.count
 
 abbrev pub labels_of : ArrayVec Label 16 → List LabelDef
 labels_of v = map label_of (items_of v)

@@ -1,7 +1,8 @@
 // The form rules: label points, what operations name, and how code ends.
 ghost use Rattle.std.specs.Prelude.{◌≡◌, ◌+◌, ◌^◌, ◌<◌, ◌≤◌, cond, not, ◌||◌, map, length, IfErr, Ok};
-ghost use Rattle.semantics.specs.Form.{must, labels_rise, named_by, named_as, target, present, operands, all_present, code_names, leaves, labelled, code_ends, form_of};
+ghost use Rattle.semantics.specs.Form.{must, labels_rise, Named, named_by, named_as, target, present, operands, all_present, code_names, leaves, labelled, code_ends, form_of};
 ghost use Rattle.semantics.specs.FormLaws.{WellFormed, FirstFault};
+ghost use Rattle.semantics.specs.declared.refusal.Refusal.TheVariants.{Absent};
 ghost use Rattle.semantics.specs.Methods.{op_of, label_of, method_of};
 ghost use Rattle.text.specs.Scopes.{scope_from};
 
@@ -21,7 +22,7 @@ fn labels_rise(labels: &[Label], points: usize) -> Result<(), Refusal>
 {
     let mut low = 0;
     for (i, label) in labels.iter().enumerate() {
-        let point = label.point as usize;
+        let point = usize::from(label.point);
         if point < low || points <= point {
             return Err(Refusal::LabelPoint { label: i });
         }
@@ -38,62 +39,61 @@ pub struct Scope {
     labels: usize,
 }
 
-impl Scope {
-    fn has(&self, operand: Operand) -> bool
-        ensures { result ≡ present (scope_from self.now) (named_by operand) }
-    {
-        match operand {
-            Operand::Local(n) => (n as usize) < self.locals,
-            Operand::Temporary(n) => (n as usize) < self.temporaries,
+// What an operand may name.
+trait Name: Copy {
+    ghost named: { Self → Named };
+
+    fn is_in(self, scope: &Scope) -> bool
+        ensures { result ≡ present (scope_from scope.now) (named self) };
+}
+
+impl Name for Operand {
+    ghost named = { named_by };
+
+    fn is_in(self, scope: &Scope) -> bool {
+        match self {
+            Operand::Local(n) => usize::from(n) < scope.locals,
+            Operand::Temporary(n) => usize::from(n) < scope.temporaries,
             Operand::Constant(_) => true,
         }
     }
+}
 
-    fn has_destination(&self, destination: Destination) -> bool
-        ensures { result ≡ present (scope_from self.now) (named_as destination) }
-    {
-        match destination {
-            Destination::Local(n) => (n as usize) < self.locals,
-            Destination::Temporary(n) => (n as usize) < self.temporaries,
+impl Name for Destination {
+    ghost named = { named_as };
+
+    fn is_in(self, scope: &Scope) -> bool {
+        match self {
+            Destination::Local(n) => usize::from(n) < scope.locals,
+            Destination::Temporary(n) => usize::from(n) < scope.temporaries,
         }
     }
+}
 
-    fn has_label(&self, label: u8) -> bool
-        ensures { result ≡ present (scope_from self.now) (target label) }
+// A label.
+impl Name for u8 {
+    ghost named = { target };
+
+    fn is_in(self, scope: &Scope) -> bool {
+        usize::from(self) < scope.labels
+    }
+}
+
+impl Scope {
+    // That the method has what an operand names.
+    fn has<T: Name>(&self, point: usize, operand: usize, name: T) -> Result<(), Refusal>
+        ensures { result ≡ must (present (scope_from self.now) (T.named name)) (Absent point operand) }
     {
-        (label as usize) < self.labels
+        must(name.is_in(self), Refusal::Absent { point, operand })
     }
 
-    // The labels that an operation names, the first of which is its operand `first`.
-    fn has_labels(&self, point: usize, first: usize, labels: &[u8]) -> Result<(), Refusal>
-        requires { first + length labels.now < 2 ^ 64 }
-        ensures { result ≡ all_present (scope_from self.now) point first (map target labels.now) }
+    // The same of the operands from `first` on.
+    fn has_all<T: Name>(&self, point: usize, first: usize, names: &[T]) -> Result<(), Refusal>
+        requires { first + length names.now < 2 ^ 64 }
+        ensures { result ≡ all_present (scope_from self.now) point first (map T.named names.now) }
     {
-        for (i, label) in labels.iter().enumerate() {
-            must(
-                self.has_label(*label),
-                Refusal::Absent {
-                    point,
-                    operand: first + i,
-                },
-            )?;
-        }
-        Ok(())
-    }
-
-    // The arguments of an invocation, likewise.
-    fn has_operands(&self, point: usize, first: usize, operands: &[Operand]) -> Result<(), Refusal>
-        requires { first + length operands.now < 2 ^ 64 }
-        ensures { result ≡ all_present (scope_from self.now) point first (map named_by operands.now) }
-    {
-        for (i, operand) in operands.iter().enumerate() {
-            must(
-                self.has(*operand),
-                Refusal::Absent {
-                    point,
-                    operand: first + i,
-                },
-            )?;
+        for (i, name) in names.iter().enumerate() {
+            self.has(point, first + i, *name)?;
         }
         Ok(())
     }
@@ -103,24 +103,15 @@ impl Scope {
         ensures { result ≡ all_present (scope_from self.now) point 0 (operands (op_of operation.now)) }
     {
         match operation {
-            Operation::Return(value) => must(
-                self.has(*value),
-                Refusal::Absent { point, operand: 0 },
-            ),
-            Operation::Jump(label) => must(
-                self.has_label(*label),
-                Refusal::Absent { point, operand: 0 },
-            ),
+            Operation::Return(value) => self.has(point, 0, *value),
+            Operation::Jump(label) => self.has(point, 0, *label),
             Operation::JumpIf(condition, label) => {
-                must(self.has(*condition), Refusal::Absent { point, operand: 0 })?;
-                must(
-                    self.has_label(*label),
-                    Refusal::Absent { point, operand: 1 },
-                )
+                self.has(point, 0, *condition)?;
+                self.has(point, 1, *label)
             }
             Operation::JumpList(selector, labels) => {
-                must(self.has(*selector), Refusal::Absent { point, operand: 0 })?;
-                self.has_labels(point, 1, labels.as_slice())
+                self.has(point, 0, *selector)?;
+                self.has_all(point, 1, labels.as_slice())
             }
             Operation::Invoke {
                 into,
@@ -128,12 +119,9 @@ impl Scope {
                 arguments,
                 ..
             } => {
-                must(
-                    self.has_destination(*into),
-                    Refusal::Absent { point, operand: 0 },
-                )?;
-                must(self.has(*receiver), Refusal::Absent { point, operand: 1 })?;
-                self.has_operands(point, 3, arguments.as_slice())
+                self.has(point, 0, *into)?;
+                self.has(point, 1, *receiver)?;
+                self.has_all(point, 3, arguments.as_slice())
             }
         }
     }
@@ -161,12 +149,7 @@ fn leaves(operation: &Operation) -> bool
 fn is_labelled(labels: &[Label], point: usize) -> bool
     ensures { result ≡ labelled (map label_of labels.now) point }
 {
-    for label in labels {
-        if label.point as usize == point {
-            return true;
-        }
-    }
-    false
+    labels.iter().any(|label| usize::from(label.point) == point)
 }
 
 // Whether the code may stand so: the last operation leaves, and behind any other that leaves stands a label.
@@ -193,6 +176,22 @@ fn code_ends(code: &[Operation], labels: &[Label]) -> Result<(), Refusal>
     Ok(())
 }
 
+// The rules, one after the other over the whole method.
+fn first_fault(method: &Method) -> Result<(), Refusal>
+    ensures { result ≡ form_of (method_of method.now) }
+{
+    let code = method.code.as_slice();
+    let labels = method.labels.as_slice();
+    labels_rise(labels, code.len())?;
+    let scope = Scope {
+        locals: method.arguments.len() + 1,
+        temporaries: usize::from(method.temporaries),
+        labels: labels.len(),
+    };
+    scope.has_all_named(code)?;
+    code_ends(code, labels)
+}
+
 // The first fault of a method's form, if there is one.
 pub fn form(method: &Method) -> Result<(), Refusal>
     ensures value { result ≡ form_of (method_of method.now) }
@@ -200,14 +199,5 @@ pub fn form(method: &Method) -> Result<(), Refusal>
     ensures exact { (result ≡ Ok tt → WellFormed (method_of method.now)) × (WellFormed (method_of method.now) → result ≡ Ok tt) }
     ensures first { IfErr result (FirstFault (method_of method.now)) }
 {
-    let code = method.code.as_slice();
-    let labels = method.labels.as_slice();
-    labels_rise(labels, code.len())?;
-    let scope = Scope {
-        locals: method.arguments.len() + 1,
-        temporaries: method.temporaries as usize,
-        labels: labels.len(),
-    };
-    scope.has_all_named(code)?;
-    code_ends(code, labels)
+    first_fault(method)
 }

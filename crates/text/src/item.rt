@@ -4,13 +4,10 @@ ghost use Rattle.semantics.specs.Pieces.{Piece};
 ghost use Rattle.semantics.specs.Values.{Said, number_at, operand_at, destination_at};
 ghost use Rattle.text.specs.Parts.{piece_of};
 
-use crate::number::{constant, number};
+use crate::number::{MAX_NUMBER, constant, number};
 use crate::part::Part;
 use semantics::operation::{Destination, Operand};
 use semantics::refusal::Fault;
-
-// Classes, points, labels, locals and temporaries run to this.
-pub const MAX_NUMBER: u8 = 63;
 
 pub trait Item: Copy {
     // What a part says.

@@ -12,7 +12,14 @@ use semantics::array_vec::ArrayVec;
 use semantics::method::Label;
 use semantics::refusal::Fault;
 
-const MAX_ARGUMENTS: usize = 7;
+pub const MAX_ARGUMENTS: usize = 7;
+
+// How many temporaries a method has, and so classes each row.
+#[derive(Clone, Copy)]
+pub struct Temporaries {
+    pub count: u8,
+    ghost few: { count ≤ 8 },
+}
 
 // The argument classes that the value of an args line says.
 pub fn read_arguments(value: Part<'_>) -> Result<ArrayVec<u8, 7>, Fault>
@@ -26,21 +33,19 @@ pub fn read_arguments(value: Part<'_>) -> Result<ArrayVec<u8, 7>, Fault>
 }
 
 // A row with one class for each temporary.
-fn read_row(value: Part<'_>, temporaries: u8) -> Result<ArrayVec<u8, 8>, Fault>
-    requires { temporaries ≤ 8 }
-    ensures { mapped items_of result ≡ row_at temporaries (piece_of value.entry) }
+fn read_row(value: Part<'_>, temporaries: Temporaries) -> Result<ArrayVec<u8, 8>, Fault>
+    ensures { mapped items_of result ≡ row_at temporaries.count (piece_of value.entry) }
 {
     let classes = Parts::or_none(value, b',');
-    if classes.len() != temporaries as usize {
+    if classes.len() != usize::from(temporaries.count) {
         return Err(Fault::Malformed);
     }
     list(classes, 0)
 }
 
 // The label that the value of a label line says.
-pub fn read_label(value: Part<'_>, temporaries: u8) -> Result<Label, Fault>
-    requires { temporaries ≤ 8 }
-    ensures { mapped label_of result ≡ label_at temporaries (piece_of value.entry) }
+pub fn read_label(value: Part<'_>, temporaries: Temporaries) -> Result<Label, Fault>
+    ensures { mapped label_of result ≡ label_at temporaries.count (piece_of value.entry) }
 {
     let mut parts = Parts::new(value, b':');
     let point = u8::read(parts.next_part()?);

@@ -24,8 +24,7 @@ pub fn both<X: Drop, Y: Drop>(x: Result<X, Fault>, y: Result<Y, Fault>) -> Resul
 {
     match (x, y) {
         (Ok(x), Ok(y)) => Ok((x, y)),
-        (Ok(_), Err(fault)) => Err(fault),
-        (Err(fault), Ok(_)) => Err(fault),
+        (Ok(_), Err(fault)) | (Err(fault), Ok(_)) => Err(fault),
         (Err(first), Err(second)) => Err(worst(first, second)),
     }
 }
@@ -38,16 +37,9 @@ fn append<T: Copy, const N: usize>(
     requires { IfOk list (λ v. length (items_of v) < N) }
     ensures { mapped items_of result ≡ appended (mapped items_of list) item }
 {
-    match (list, item) {
-        (Ok(items), Ok(item)) => {
-            let mut items = items;
-            let _ = items.push(item);
-            Ok(items)
-        }
-        (Ok(_), Err(fault)) => Err(fault),
-        (Err(fault), Ok(_)) => Err(fault),
-        (Err(first), Err(second)) => Err(worst(first, second)),
-    }
+    let (mut items, item) = both(list, item)?;
+    let _ = items.push(item);
+    Ok(items)
 }
 
 // The items that the parts say, which are at most N.

@@ -9,6 +9,11 @@ ghost use Rattle.text.specs.Digits.{up_to_max};
 use crate::part::Part;
 use semantics::refusal::Fault;
 
+// Classes, points, labels, locals and temporaries run to this.
+pub const MAX_NUMBER: u8 = 63;
+
+pub const MAX_NAME: u8 = 255;
+
 const MAX_CONSTANT: u32 = 2147483647;
 
 const MAX_BELOW: u32 = 2147483648;

@@ -5,17 +5,14 @@ ghost use Rattle.semantics.specs.Values.{mapped, return_of, jump_of, jump_if_of,
 ghost use Rattle.text.specs.Parts.{piece_of, parts_left};
 
 use crate::item::Item;
+use crate::label::MAX_ARGUMENTS;
 use crate::list::{both, list};
-use crate::number::number;
+use crate::number::{MAX_NAME, number};
 use crate::part::{Part, Parts};
 use semantics::operation::{Destination, Operand, Operation};
 use semantics::refusal::Fault;
 
 const MAX_LABELS: usize = 8;
-
-const MAX_ARGUMENTS: usize = 7;
-
-const MAX_NAME: u8 = 255;
 
 fn read_return(mut parts: Parts<'_>) -> Result<Operation, Fault>
     ensures { mapped op_of result ≡ return_of (parts_left parts.entry) }

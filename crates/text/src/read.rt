@@ -6,15 +6,13 @@ ghost use Rattle.semantics.specs.Reading.{head_at, labels_on, code_on, method_in
 ghost use Rattle.text.specs.Lines.{left_of, read_as};
 ghost use Rattle.text.specs.Whole.{head_of, labels_of, code_of, saying_as};
 
+use crate::label::Temporaries;
+use crate::number::{MAX_NAME, MAX_NUMBER};
 use crate::reader::Reader;
 use semantics::array_vec::ArrayVec;
 use semantics::method::{Label, Method};
 use semantics::operation::Operation;
 use semantics::refusal::Refusal;
-
-const MAX_CLASS: u8 = 63;
-
-const MAX_NAME: u8 = 255;
 
 const MAX_TEMPORARIES: u8 = 8;
 
@@ -29,44 +27,38 @@ pub struct Head {
     pub name: u8,
     pub arguments: ArrayVec<u8, 7>,
     pub result: u8,
-    pub temporaries: u8,
+    pub temporaries: Temporaries,
 }
 
 fn read_head(reader: &mut Reader<'_>) -> Result<Head, Refusal>
-    ensures value { read_as head_of result (left_of reader.new) ≡ head_at (left_of reader.old) }
-    ensures bound { IfOk result (λ h. h.temporaries ≤ 8) }
+    ensures { read_as head_of result (left_of reader.new) ≡ head_at (left_of reader.old) }
 {
-    let class = reader.number(b"class=", MAX_CLASS)?;
+    let class = reader.number(b"class=", MAX_NUMBER)?;
     let name = reader.number(b"name=", MAX_NAME)?;
     let arguments = reader.arguments()?;
-    let result = reader.number(b"result=", MAX_CLASS)?;
-    let temporaries = reader.number(b"temps=", MAX_TEMPORARIES)?;
+    let result = reader.number(b"result=", MAX_NUMBER)?;
+    let count = reader.number(b"temps=", MAX_TEMPORARIES)?;
     Ok(Head {
         class,
         name,
         arguments,
         result,
-        temporaries,
+        temporaries: Temporaries { count },
     })
 }
 
-fn read_labels(reader: &mut Reader<'_>, temporaries: u8) -> Result<ArrayVec<Label, 16>, Refusal>
-    requires { temporaries ≤ 8 }
-    ensures { read_as labels_of result (left_of reader.new) ≡ labels_on 16 temporaries [] (left_of reader.old) }
+fn read_labels(reader: &mut Reader<'_>, temporaries: Temporaries) -> Result<ArrayVec<Label, 16>, Refusal>
+    ensures { read_as labels_of result (left_of reader.new) ≡ labels_on 16 temporaries.count [] (left_of reader.old) }
 {
     let mut labels = ArrayVec::new(Label {
         point: 0,
         row: ArrayVec::new(0),
     });
-    for count in 0..MAX_LABELS {
-        if !reader.begins(b"label=") {
-            return Ok(labels);
+    while reader.begins(b"label=") {
+        if labels.len() == MAX_LABELS {
+            return Err(Refusal::Line { at: reader.place() });
         }
-        let label = reader.label(temporaries)?;
-        let _ = labels.push(label);
-    }
-    if reader.begins(b"label=") {
-        return Err(Refusal::Line { at: reader.place() });
+        let _ = labels.push(reader.label(temporaries)?);
     }
     Ok(labels)
 }
@@ -75,9 +67,8 @@ fn read_code(reader: &mut Reader<'_>) -> Result<ArrayVec<Operation, 64>, Refusal
     ensures { saying_as code_of result ≡ code_on 64 [] (left_of reader.old) }
 {
     let mut code = ArrayVec::new(Operation::Jump(0));
-    for count in 0..MAX_POINTS {
-        let operation = reader.operation()?;
-        let _ = code.push(operation);
+    while code.len() < MAX_POINTS {
+        let _ = code.push(reader.operation()?);
         if reader.is_done() {
             return Ok(code);
         }
@@ -99,7 +90,7 @@ pub fn read(text: &[u8]) -> Result<Method, Refusal>
         name: head.name,
         arguments: head.arguments,
         result: head.result,
-        temporaries: head.temporaries,
+        temporaries: head.temporaries.count,
         labels,
         code,
     })

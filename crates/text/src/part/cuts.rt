@@ -67,7 +67,11 @@ impl<'a> Parts<'a> {
         ensures { parts_left result ≡ parted_or_none separator value.entry.at value.entry.bytes.now }
     {
         Parts {
-            left: if value.bytes.is_empty() { None } else { Some(value) },
+            left: if value.bytes.is_empty() {
+                None
+            } else {
+                Some(value)
+            },
             separator,
         }
     }

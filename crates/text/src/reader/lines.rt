@@ -7,7 +7,7 @@ ghost use Rattle.semantics.specs.Reading.{begins, behind, line, refused};
 ghost use Rattle.semantics.specs.Values.{number_at, arguments_at, label_at, operation_at};
 ghost use Rattle.text.specs.Lines.{left_of, line_of, piece_read, GivesLine, read_as, itself};
 
-use crate::label::{read_arguments, read_label};
+use crate::label::{Temporaries, read_arguments, read_label};
 use crate::number::number;
 use crate::operation::read_operation;
 use crate::part::Part;
@@ -69,7 +69,11 @@ impl<'a> Reader<'a> {
     }
 
     // What `read` finds in the value of the next line.
-    fn value<T, F: FnOnce(Part<'a>) -> Result<T, Fault>>(&mut self, word: &[u8], read: F) -> Result<T, Refusal>
+    fn value<T, F: FnOnce(Part<'a>) -> Result<T, Fault>>(
+        &mut self,
+        word: &[u8],
+        read: F,
+    ) -> Result<T, Refusal>
         requires no_end { up_to 10 word.now ≡ length word.now }
         requires callable { F.IsAlwaysCallable read }
         ensures { GivesLine (F.post read) word.now (left_of self.old) result (left_of self.new) }
@@ -93,9 +97,8 @@ impl<'a> Reader<'a> {
         self.value(b"args=", read_arguments)
     }
 
-    pub fn label(&mut self, temporaries: u8) -> Result<Label, Refusal>
-        requires { temporaries ≤ 8 }
-        ensures { read_as label_of result (left_of self.new) ≡ line (codes "label=") (label_at temporaries) (left_of self.old) }
+    pub fn label(&mut self, temporaries: Temporaries) -> Result<Label, Refusal>
+        ensures { read_as label_of result (left_of self.new) ≡ line (codes "label=") (label_at temporaries.count) (left_of self.old) }
     {
         self.value(b"label=", |value| read_label(value, temporaries))
     }

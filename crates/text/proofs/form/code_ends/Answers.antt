@@ -1,9 +1,8 @@
-use Rattle.std.proofs.Common.{◌+◌, cond, not, ◌||◌, eqb, map, length, Ok, refl, ap, ◌∙◌}
-use Rattle.semantics.specs.Form.{leaves, code_ends}
+use Rattle.std.proofs.Common.{◌+◌, cond, not, ◌||◌, eqb, map, length, ap, ◌∙◌}
+use Rattle.semantics.specs.Form.{leaves}
 use Rattle.semantics.specs.Methods.{label_of, op_of}
-use Rattle.semantics.proofs.Walks.{exits}
-use Rattle.semantics.proofs.Walks.{item_at}
-use Rattle.text.proofs.Walks.{ends_turn, ends_breaks, walk_end}
+use Rattle.semantics.proofs.Walks.{exits, item_at}
+use Rattle.text.proofs.Walks.{ends_turn, ends_breaks}
 use Rattle.text.proofs.form.code_ends.Goals as goal
 
 pub returns-in_err-must : goal.returns-in_err-must
@@ -20,6 +19,3 @@ loop-point-preserved c =
     (item_at c.args.code.now c.loop-point.point c.index-code-point.result c.loop-point-test.true c.index-code-point.is)
     (c.ends.ensures ∙ ap (λ b. cond (eqb (c.loop-point.point + 1) (length c.args.code.now)) (leaves (op_of c.index-code-point.result)) (not (leaves (op_of c.index-code-point.result)) || b)) c.is_labelled-behind.ensures)
     c.in_ok-must.ensures c.loop-point.invariant
-
-pub returns : goal.returns
-returns c = walk_end (λ x. code_ends (map label_of c.args.labels.now) c.loop-point.point (map op_of x)) c.args.code.now c.loop-point.point (Ok tt) _ refl c.loop-point-test.false c.loop-point.invariant

@@ -21,11 +21,6 @@ second c =
 third : (c : In_ok-next_part-3) → with_part (parts_left c.next_part-2.new.self) (λ m bs. invoked (destination_at (piece_of c.in_ok-next_part.field-0)) (operand_at (piece_of c.in_ok-next_part-2.field-0)) (number_at 255 m) (list_of 7 operand_at bs)) ≡ invoked (destination_at (piece_of c.in_ok-next_part.field-0)) (operand_at (piece_of c.in_ok-next_part-2.field-0)) (number_at 255 (piece_of c.in_ok-next_part-3.field-0)) (list_of 7 operand_at (parts_left c.next_part-3.new.self))
 third c = part_ok (piece_of c.in_ok-next_part-3.field-0) (parts_left c.next_part-2.new.self) (parts_left c.next_part-3.new.self) _ c.in_ok-next_part-3.ensures.value c.next_part-3.ensures.after
 
-pub returns-in_err-next_part-3 : goal.returns-in_err-next_part-3
-returns-in_err-next_part-3 c =
-    ap (mapped op_of) (exits c.from_residual-in_err-next_part-3.result _ c.from_residual-in_err-next_part-3.ensures.1)
-    ∙ sym (second (goal.at.returns-in_err-next_part-3 c).In_ok-next_part-2 ∙ part_err c.in_err-next_part-3.field-0.0 (parts_left c.next_part-2.new.self) _ c.in_err-next_part-3.ensures.value)
-
 pub returns-then-len-gt-MAX_ARGUMENTS : goal.returns-then-len-gt-MAX_ARGUMENTS
 returns-then-len-gt-MAX_ARGUMENTS c =
     let k = goal.at.returns-then-len-gt-MAX_ARGUMENTS c in

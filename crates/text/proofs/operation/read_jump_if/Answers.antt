@@ -25,17 +25,6 @@ third c =
     end_ok tt (parts_left c.next_part-2.new.self) _ c.in_ok-end.ensures
     ∙ (λ i. mapped pair (both (sym c.read-condition.ensures i) (sym c.read-label.ensures i)))
 
-pub returns-in_err-next_part-2 : goal.returns-in_err-next_part-2
-returns-in_err-next_part-2 c =
-    ap (mapped op_of) (exits c.from_residual-in_err-next_part-2.result _ c.from_residual-in_err-next_part-2.ensures.1)
-    ∙ sym (first (goal.at.returns-in_err-next_part-2 c).In_ok-next_part ∙ part_err c.in_err-next_part-2.field-0.0 (parts_left c.next_part.new.self) _ c.in_err-next_part-2.ensures.value)
-
-pub returns-in_err-end : goal.returns-in_err-end
-returns-in_err-end c =
-    let k = goal.at.returns-in_err-end c in
-    ap (mapped op_of) (exits c.from_residual-in_err-end.result _ c.from_residual-in_err-end.ensures.1)
-    ∙ sym (first k.In_ok-next_part ∙ second k.In_ok-next_part-2 ∙ end_err c.in_err-end.field-0.0 (parts_left c.next_part-2.new.self) _ c.in_err-end.ensures)
-
 pub returns-in_err-condition : goal.returns-in_err-condition
 returns-in_err-condition c =
     let k = goal.at.returns-in_err-condition c in

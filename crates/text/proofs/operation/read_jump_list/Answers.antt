@@ -15,13 +15,6 @@ first c =
     jump_list_by (parts_left c.args.parts)
     ∙ part_ok (piece_of c.in_ok-next_part.field-0) (parts_left c.args.parts) (parts_left c.next_part.new.self) listed_for c.in_ok-next_part.ensures.value c.next_part.ensures.after
 
-pub returns-then-count-eq0 : goal.returns-then-count-eq0
-returns-then-count-eq0 c =
-    let a = piece_of c.in_ok-next_part.field-0 in
-    let L = parts_left c.next_part.new.self in
-    sym (first (goal.at.returns-then-count-eq0 c).In_ok-next_part
-    ∙ ⊎_elim (λ e. listed_none a L (sym c.len-count.ensures ∙ e)) (λ e. listed_many a L (omega (arith, e.1, c.len-count.ensures))) c.then-count-eq0.either)
-
 pub returns-in_err-selector : goal.returns-in_err-selector
 returns-in_err-selector c =
     let a = piece_of c.in_ok-next_part.field-0 in

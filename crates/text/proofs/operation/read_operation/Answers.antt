@@ -1,4 +1,4 @@
-use Rattle.std.proofs.Common.{◌≡◌, ◌∷◌, [], get_or, sym, ap, ◌∙◌, arith, rules}
+use Rattle.std.proofs.Common.{◌∷◌, [], sym, ap, ◌∙◌, arith}
 use Rattle.semantics.specs.Values.{lettered}
 use Rattle.text.specs.Parts.{piece_of, parts_left}
 use Rattle.text.proofs.Taking.{operation_by}

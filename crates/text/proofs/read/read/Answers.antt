@@ -18,41 +18,21 @@ abbrev rest_of : Read Head → Result MethodDef Refusal
 rest_of h = so (labels_on 16 h.said.temporaries [] h.left) (body_of h.said)
 
 first : (c : In_ok-head) → method_in c.args.text.now ≡ rest_of (read (head_of c.in_ok-head.head) (left_of c.read_head.new.reader))
-first c = ap (λ v. so (head_at v) rest_of) (sym c.new-reader.ensures) ∙ ap (λ r. so r rest_of) (sym c.in_ok-head.ensures.value)
+first c = ap (λ v. so (head_at v) rest_of) (sym c.new-reader.ensures) ∙ ap (λ r. so r rest_of) (sym c.in_ok-head.ensures)
 
 second : (c : In_ok-labels) → rest_of (read (head_of c.in_ok-head.head) (left_of c.read_head.new.reader)) ≡ body_of (head_of c.in_ok-head.head) (read (labels_of c.in_ok-labels.labels) (left_of c.read_labels.new.reader))
 second c = ap (λ r. so r (body_of (head_of c.in_ok-head.head))) (sym c.in_ok-labels.ensures)
 
-pub returns-in_err-head : goal.returns-in_err-head
-returns-in_err-head c = record {
-  value = ap (saying_as method_of) (exits c.from_residual.result _ c.from_residual.ensures.1)
-      ∙ ap (λ r. so r rest_of) c.in_err-head.ensures.value ∙ ap (λ v. so (head_at v) rest_of) c.new-reader.ensures;
-  only = IfOk-from_err c.from_residual.result _ c.from_residual.ensures.0;
-}
+pub returns-in_err-head-clause-value : goal.returns-in_err-head-clause-value
+returns-in_err-head-clause-value c =
+    ap (saying_as method_of) (exits c.from_residual.result _ c.from_residual.ensures.1)
+    ∙ ap (λ r. so r rest_of) c.in_err-head.ensures ∙ ap (λ v. so (head_at v) rest_of) c.new-reader.ensures
 
-pub returns-in_err-labels : goal.returns-in_err-labels
-returns-in_err-labels c = record {
-  value = ap (saying_as method_of) (exits c.from_residual-in_err-labels.result _ c.from_residual-in_err-labels.ensures.1)
-      ∙ ap (λ r. so r (body_of (head_of c.in_ok-head.head))) c.in_err-labels.ensures
-      ∙ sym (first (goal.at.returns-in_err-labels c).In_ok-head);
-  only = IfOk-from_err c.from_residual-in_err-labels.result _ c.from_residual-in_err-labels.ensures.0;
-}
-
-pub returns-in_err-code : goal.returns-in_err-code
-returns-in_err-code c =
-    let k = goal.at.returns-in_err-code c in
-    record {
-      value = ap (saying_as method_of) (exits c.from_residual-in_err-code.result _ c.from_residual-in_err-code.ensures.1)
-          ∙ ap (λ r. so r (λ os. Ok (method_from (head_of c.in_ok-head.head) (labels_of c.in_ok-labels.labels) os))) c.in_err-code.ensures
-          ∙ sym (first k.In_ok-head ∙ second k.In_ok-labels);
-      only = IfOk-from_err c.from_residual-in_err-code.result _ c.from_residual-in_err-code.ensures.0;
-    }
-
-pub returns : goal.returns
-returns c =
-    let k = goal.at.returns c in
+pub returns-clause-only : goal.returns-clause-only
+returns-clause-only c =
+    let k = goal.at.returns-clause-only c in
     let m = method_from (head_of c.in_ok-head.head) (labels_of c.in_ok-labels.labels) (code_of c.in_ok-code.code) in
     let e : Ok m ≡ method_in c.args.text.now =
     ap (λ r. so r (λ os. Ok (method_from (head_of c.in_ok-head.head) (labels_of c.in_ok-labels.labels) os))) c.in_ok-code.ensures
     ∙ sym (first k.In_ok-head ∙ second k.In_ok-labels) in
-    record { value = e; only = read_was_written c.args.text.now m (sym e) }
+    read_was_written c.args.text.now m (sym e)

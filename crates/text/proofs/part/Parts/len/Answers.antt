@@ -1,4 +1,4 @@
-use Rattle.std.proofs.Common.{◌≡◌, eqb, length, ap, sym, ◌∙◌, arith, rules}
+use Rattle.std.proofs.Common.{◌≡◌, eqb, length, ap, arith, rules}
 use Rattle.std.specs.List.{count_by}
 use Rattle.text.specs.Parts.{parts_in}
 use Rattle.text.proofs.Cuts.{parted_length}
