@@ -54,10 +54,7 @@ impl Frames {
     pub(crate) fn or_stop<X>(&self, test: Result<X, Misfit>) -> Result<X, Stop>
         ensures { result ≡ or_stop (top_of self.now) test }
     {
-        match test {
-            Ok(value) => Ok(value),
-            Err(misfit) => Err(self.stop(Ending::BrokenOff(Break::Misfit(misfit)))),
-        }
+        test.map_err(|misfit| self.stop(Ending::BrokenOff(Break::Misfit(misfit))))
     }
 
     // The frame on top goes to a point.

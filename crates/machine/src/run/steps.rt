@@ -61,12 +61,8 @@ impl Frames {
         let answer = host.ask(&question);
         match answer {
             Answer::None(cause) => Err(self.stop(Ending::NoAnswer(cause))),
-            Answer::Given(value) => {
-                if !table.fits(value.class, entry.result) {
-                    return Err(self.stop(Ending::BrokenOff(Break::AnswerClass)));
-                }
-                Ok(value)
-            }
+            Answer::Given(value) if table.fits(value.class, entry.result) => Ok(value),
+            Answer::Given(_) => Err(self.stop(Ending::BrokenOff(Break::AnswerClass))),
         }
     }
 
