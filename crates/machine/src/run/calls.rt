@@ -90,7 +90,7 @@ impl Run {
         ensures run { run_of self.new ≡ run_after (run_of self.old) (go_run (store_of T.listed store.now) H.reply steps (H.condition host.old) (run_of self.old)) }
         ensures host { H.condition host.new ≡ host_after (H.condition host.old) (go_run (store_of T.listed store.now) H.reply steps (H.condition host.old) (run_of self.old)) }
     {
-        // The run and the outcome of its last step are matched together; a `for` over the steps would match them again behind it.
+        // The project's rule: the run and the outcome of its last step are matched together. A `for` over the steps would match them again behind it.
         let mut taken = 0;
         let mut outcome: Result<(), Stop> = Ok(());
         loop {

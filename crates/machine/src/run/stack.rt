@@ -67,7 +67,7 @@ impl Frames {
     }
 
     // The frame on top goes past its invocation, with the result in its place.
-    // That it stands at one is a clause here and below: a type that says so would hold a `&mut Frames`, and say in each method which.
+    // That it stands at one is a clause, here and below: a type for it would hold a `&mut Frames`, with a clause on that in each method.
     fn put(&mut self, into: Destination, value: Value)
         requires { (top_of self.old).point < 64 }
         ensures top { top_of self.new ≡ put_in (top_of self.old) into value }
