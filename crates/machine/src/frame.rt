@@ -25,42 +25,46 @@ pub struct Frame {
     pub temporaries: ArrayVec<Value, 8>,
 }
 
-// The classes of values.
-pub(crate) fn kinds(values: &ArrayVec<Value, 7>) -> ArrayVec<u8, 7>
-    ensures { items_of result ≡ map kind_of (items_of values.now) }
-{
-    let mut classes = ArrayVec::new(0);
-    for value in values.as_slice() {
-        let _ = classes.push(value.class);
-    }
-    classes
+// What a method is called with: a receiver and arguments.
+#[derive(Clone, Copy)]
+pub(crate) struct Call {
+    pub(crate) receiver: Value,
+    pub(crate) arguments: ArrayVec<Value, 7>,
 }
 
-// The receiver and the arguments.
-fn locals_of(receiver: Value, arguments: &ArrayVec<Value, 7>) -> ArrayVec<Value, 8>
-    ensures { items_of result ≡ receiver ∷ items_of arguments.now }
-{
-    let mut locals = ArrayVec::repeat(receiver, 1);
-    for argument in arguments.as_slice() {
-        let _ = locals.push(*argument);
+impl Call {
+    // The classes of the arguments.
+    pub(crate) fn kinds(&self) -> ArrayVec<u8, 7>
+        ensures { items_of result ≡ map kind_of (items_of self.now.arguments) }
+    {
+        let mut classes = ArrayVec::new(0);
+        for value in self.arguments.as_slice() {
+            let _ = classes.push(value.class);
+        }
+        classes
     }
-    locals
+
+    // The locals that a method begins with.
+    fn locals(&self) -> ArrayVec<Value, 8>
+        ensures { items_of result ≡ self.now.receiver ∷ items_of self.now.arguments }
+    {
+        let mut locals = ArrayVec::repeat(self.receiver, 1);
+        for argument in self.arguments.as_slice() {
+            let _ = locals.push(*argument);
+        }
+        locals
+    }
 }
 
 impl Frame {
     // The first frame of a row: receiver and arguments, and temporaries of class 0 with number 0.
-    pub(crate) fn opened(
-        row: usize,
-        code: &Code,
-        receiver: Value,
-        arguments: &ArrayVec<Value, 7>,
-    ) -> Frame
-        ensures { frame_of result ≡ opened row (code_of code.now) receiver (items_of arguments.now) }
+    pub(crate) fn opened(row: usize, code: &Code, call: &Call) -> Frame
+        ensures { frame_of result ≡ opened row (code_of code.now) call.now.receiver (items_of call.now.arguments) }
     {
         Frame {
             row,
             point: 0,
-            locals: locals_of(receiver, arguments),
+            locals: call.locals(),
             temporaries: ArrayVec::repeat(ZERO, code.temporaries as usize),
         }
     }
@@ -75,7 +79,7 @@ impl Frame {
         }
     }
 
-    pub(crate) fn values(&self, operands: &ArrayVec<Operand, 7>) -> ArrayVec<Value, 7>
+    fn values(&self, operands: &ArrayVec<Operand, 7>) -> ArrayVec<Value, 7>
         ensures { items_of result ≡ map (operand_value (frame_of self.now)) (items_of operands.now) }
     {
         let mut values = ArrayVec::new(ZERO);
@@ -83,6 +87,17 @@ impl Frame {
             let _ = values.push(self.value(*operand));
         }
         values
+    }
+
+    // The call that an invocation makes.
+    pub(crate) fn call(&self, receiver: Operand, arguments: &ArrayVec<Operand, 7>) -> Call
+        ensures receiver { result.receiver ≡ operand_value (frame_of self.now) receiver }
+        ensures arguments { items_of result.arguments ≡ map (operand_value (frame_of self.now)) (items_of arguments.now) }
+    {
+        Call {
+            receiver: self.value(receiver),
+            arguments: self.values(arguments),
+        }
     }
 
     // Past the invocation, with its result in its place.

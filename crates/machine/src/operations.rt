@@ -91,10 +91,8 @@ impl Jump<'_> {
     {
         let row = self.frame.temporaries.as_slice();
         named_fit(table, self.labels, row, self.operation)?;
-        match to {
-            Some(label) => Ok(label_point(self.labels, label)),
-            None => Ok(self.frame.point + 1),
-        }
+        let next = self.frame.point + 1;
+        Ok(to.map_or(next, |label| label_point(self.labels, label)))
     }
 
     // The same where a condition decides.

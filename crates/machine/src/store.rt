@@ -56,9 +56,7 @@ impl<T: ClassTable> Store<'_, T> {
     pub(crate) fn destination_at(&self, row: usize, point: usize) -> Destination
         ensures { result ≡ destination_of (op_at (code_at (store_of T.listed self.now) row) point) }
     {
-        match self.code_at(row) {
-            Some(code) => destination_in(code, point),
-            None => Destination::Local(0),
-        }
+        self.code_at(row)
+            .map_or(Destination::Local(0), |code| destination_in(code, point))
     }
 }

@@ -8,7 +8,7 @@ ghost use Rattle.verifier.specs.Answers.{answered};
 ghost use Rattle.machine.specs.Frames.{frame_of, store_of};
 ghost use Rattle.machine.specs.Turns.{run_of, is_in_hand, begun, run_after};
 
-use crate::frame::{Frame, kinds};
+use crate::frame::{Call, Frame};
 use crate::run::stop::Stop;
 use crate::run::{Frames, Run};
 use crate::store::Store;
@@ -33,22 +33,17 @@ fn start_refusal(misfit: Misfit) -> Refusal
 }
 
 // The first frame of the row that a name means on the receiver, where the row has code and takes the arguments.
-fn first_frame<T: ClassTable>(
-    store: &Store<'_, T>,
-    receiver: Value,
-    name: u8,
-    arguments: &ArrayVec<Value, 7>,
-) -> Result<Frame, Refusal>
-    ensures { answered frame_of result ≡ first_frame (store_of T.listed store.now) receiver name (items_of arguments.now) }
+fn first_frame<T: ClassTable>(store: &Store<'_, T>, name: u8, call: &Call) -> Result<Frame, Refusal>
+    ensures { answered frame_of result ≡ first_frame (store_of T.listed store.now) call.now.receiver name (items_of call.now.arguments) }
 {
     let env = &store.env;
-    let Some(row) = lookup(env.table, env.entries, receiver.class, name) else {
+    let Some(row) = lookup(env.table, env.entries, call.receiver.class, name) else {
         return Err(Refusal::StartNoRow);
     };
     let code = store.code_at(row).ok_or(Refusal::NativeRow)?;
-    let given = kinds(arguments);
-    taking(env.table, &env.entries[row], given.as_slice()).map_err(start_refusal)?;
-    Ok(Frame::opened(row, code, receiver, arguments))
+    let kinds = call.kinds();
+    taking(env.table, &env.entries[row], kinds.as_slice()).map_err(start_refusal)?;
+    Ok(Frame::opened(row, code, call))
 }
 
 impl Run {
@@ -75,7 +70,11 @@ impl Run {
         ensures answer { result ≡ so (first_frame (store_of T.listed store.now) receiver name (items_of arguments.now)) (λ _. Ok tt) }
         ensures run { run_of self.new ≡ begun (run_of self.old) (first_frame (store_of T.listed store.now) receiver name (items_of arguments.now)) }
     {
-        let frame = first_frame(store, receiver, name, arguments)?;
+        let call = Call {
+            receiver,
+            arguments: *arguments,
+        };
+        let frame = first_frame(store, name, &call)?;
         *self = Run::InHand(Frames::of(frame));
         Ok(())
     }
@@ -91,6 +90,7 @@ impl Run {
         ensures run { run_of self.new ≡ run_after (run_of self.old) (go_run (store_of T.listed store.now) H.reply steps (H.condition host.old) (run_of self.old)) }
         ensures host { H.condition host.new ≡ host_after (H.condition host.old) (go_run (store_of T.listed store.now) H.reply steps (H.condition host.old) (run_of self.old)) }
     {
+        // The project's rule: the run and the outcome of its last step are matched together. A `for` over the steps would match them again behind it.
         let mut taken = 0;
         let mut outcome: Result<(), Stop> = Ok(());
         loop {

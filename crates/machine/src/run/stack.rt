@@ -7,12 +7,11 @@ ghost use Rattle.semantics.specs.Stores.{code_of};
 ghost use Rattle.machine.specs.Frames.{frame_of, store_of};
 ghost use Rattle.machine.specs.Turns.{top_of, rest_of, stop_at, or_stop, turned};
 
-use crate::frame::Frame;
+use crate::frame::{Call, Frame};
 use crate::run::stop::Stop;
 use crate::run::{Frames, MAX_FRAMES};
 use crate::store::Store;
 use classes::table::ClassTable;
-use semantics::array_vec::ArrayVec;
 use semantics::body::Code;
 use semantics::ending::{Break, Ending};
 use semantics::misfit::Misfit;
@@ -54,10 +53,7 @@ impl Frames {
     pub(crate) fn or_stop<X>(&self, test: Result<X, Misfit>) -> Result<X, Stop>
         ensures { result ≡ or_stop (top_of self.now) test }
     {
-        match test {
-            Ok(value) => Ok(value),
-            Err(misfit) => Err(self.stop(Ending::BrokenOff(Break::Misfit(misfit)))),
-        }
+        test.map_err(|misfit| self.stop(Ending::BrokenOff(Break::Misfit(misfit))))
     }
 
     // The frame on top goes to a point.
@@ -71,6 +67,7 @@ impl Frames {
     }
 
     // The frame on top goes past its invocation, with the result in its place.
+    // That it stands at one is a clause, here and below: a type for it would hold a `&mut Frames`, with a clause on that in each method.
     fn put(&mut self, into: Destination, value: Value)
         requires { (top_of self.old).point < 64 }
         ensures top { top_of self.new ≡ put_in (top_of self.old) into value }
@@ -131,20 +128,14 @@ impl Frames {
     }
 
     // A frame more, where there is room for one.
-    pub(crate) fn open(
-        &mut self,
-        row: usize,
-        code: &Code,
-        receiver: Value,
-        arguments: &ArrayVec<Value, 7>,
-    ) -> Result<(), Stop>
+    pub(crate) fn open(&mut self, row: usize, code: &Code, call: &Call) -> Result<(), Stop>
         requires { (top_of self.old).point < 64 }
-        ensures { turned result self.new (tt {0}) ≡ (if nat_lt (length (rest_of self.old) + 1) max_frames then onward (opened row (code_of code.now) receiver (items_of arguments.now)) (top_of self.old ∷ rest_of self.old) tt else ended FramesFull (top_of self.old).row (top_of self.old).point tt) }
+        ensures { turned result self.new (tt {0}) ≡ (if nat_lt (length (rest_of self.old) + 1) max_frames then onward (opened row (code_of code.now) call.now.receiver (items_of call.now.arguments)) (top_of self.old ∷ rest_of self.old) tt else ended FramesFull (top_of self.old).row (top_of self.old).point tt) }
     {
         if self.depth >= MAX_FRAMES {
             return Err(self.stop(Ending::FramesFull));
         }
-        self.frames[self.depth] = Frame::opened(row, code, receiver, arguments);
+        self.frames[self.depth] = Frame::opened(row, code, call);
         self.depth += 1;
         Ok(())
     }

@@ -8,7 +8,7 @@ ghost use Rattle.semantics.specs.Stores.{entry_at, body_at, code_at, op_at, code
 ghost use Rattle.machine.specs.Frames.{store_of};
 ghost use Rattle.machine.specs.Turns.{top_of, rest_of, turned, given, given_back};
 
-use crate::frame::kinds;
+use crate::frame::Call;
 use crate::operations::Jump;
 use crate::run::Frames;
 use crate::run::stop::Stop;
@@ -45,28 +45,23 @@ impl Frames {
         table: &T,
         host: &mut H,
         entry: &Entry,
-        receiver: Value,
-        arguments: ArrayVec<Value, 7>,
+        call: &Call,
     ) -> Result<Value, Stop>
-        ensures value { result ≡ given (T.listed table.now) (top_of self.now) entry.now.result (H.reply (H.condition host.old) (question (entry_of entry.now) receiver (items_of arguments))).0 }
-        ensures host { H.condition host.new ≡ (H.reply (H.condition host.old) (question (entry_of entry.now) receiver (items_of arguments))).1 }
+        ensures value { result ≡ given (T.listed table.now) (top_of self.now) entry.now.result (H.reply (H.condition host.old) (question (entry_of entry.now) call.now.receiver (items_of call.now.arguments))).0 }
+        ensures host { H.condition host.new ≡ (H.reply (H.condition host.old) (question (entry_of entry.now) call.now.receiver (items_of call.now.arguments))).1 }
     {
         let question = Question {
             name: entry.name,
             class: entry.class,
             wanted: entry.result,
-            receiver,
-            arguments,
+            receiver: call.receiver,
+            arguments: call.arguments,
         };
         let answer = host.ask(&question);
         match answer {
             Answer::None(cause) => Err(self.stop(Ending::NoAnswer(cause))),
-            Answer::Given(value) => {
-                if !table.fits(value.class, entry.result) {
-                    return Err(self.stop(Ending::BrokenOff(Break::AnswerClass)));
-                }
-                Ok(value)
-            }
+            Answer::Given(value) if table.fits(value.class, entry.result) => Ok(value),
+            Answer::Given(_) => Err(self.stop(Ending::BrokenOff(Break::AnswerClass))),
         }
     }
 
@@ -77,17 +72,16 @@ impl Frames {
         host: &mut H,
         row: usize,
         into: Destination,
-        receiver: Value,
-        arguments: ArrayVec<Value, 7>,
+        call: &Call,
     ) -> Result<(), Stop>
         requires { (top_of self.old).point < 64 }
-        ensures { turned result self.new (H.condition host.new) ≡ called (store_of T.listed store.now) H.reply (top_of self.old) (rest_of self.old) (H.condition host.old) into receiver (items_of arguments) (found row (entry_at (store_of T.listed store.now) row)) (body_at (store_of T.listed store.now) row) }
+        ensures { turned result self.new (H.condition host.new) ≡ called (store_of T.listed store.now) H.reply (top_of self.old) (rest_of self.old) (H.condition host.old) into call.now.receiver (items_of call.now.arguments) (found row (entry_at (store_of T.listed store.now) row)) (body_at (store_of T.listed store.now) row) }
     {
         if let Some(code) = store.code_at(row) {
-            return self.open(row, code, receiver, &arguments);
+            return self.open(row, code, call);
         }
         let entry = store.entry_at(row);
-        let value = self.ask(store.env.table, host, &entry, receiver, arguments)?;
+        let value = self.ask(store.env.table, host, &entry, call)?;
         self.received(store, into, value)
     }
 
@@ -104,19 +98,17 @@ impl Frames {
         requires { (top_of self.old).point < 64 }
         ensures { turned result self.new (H.condition host.new) ≡ operate (store_of T.listed store.now) H.reply (top_of self.old) (rest_of self.old) (H.condition host.old) (invoke into receiver name (items_of arguments.now)) }
     {
-        let frame = self.top();
-        let receiver = frame.value(receiver);
-        let arguments = frame.values(arguments);
-        let given = kinds(&arguments);
+        let call = self.top().call(receiver, arguments);
+        let kinds = call.kinds();
         let called = callee(
             store.env.table,
             store.env.entries,
-            receiver.class,
+            call.receiver.class,
             name,
-            given.as_slice(),
+            kinds.as_slice(),
         );
         let row = self.or_stop(called)?;
-        self.call(store, host, row, into, receiver, arguments)
+        self.call(store, host, row, into, &call)
     }
 
     // The operation at the point of the frame on top, which runs this code; behind the code that is a return of local 0.

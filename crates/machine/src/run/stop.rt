@@ -6,10 +6,10 @@ use semantics::ending::{End, Ending};
 
 // The ending, and the row and point of the operation that it is told at.
 #[derive(Clone, Copy)]
-pub struct Stop {
-    pub ending: Ending,
-    pub row: usize,
-    pub point: usize,
+pub(crate) struct Stop {
+    pub(crate) ending: Ending,
+    pub(crate) row: usize,
+    pub(crate) point: usize,
 }
 
 impl Stop {

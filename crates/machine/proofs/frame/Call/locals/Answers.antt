@@ -3,7 +3,7 @@ use Rattle.std.proofs.lemmas.List.{take_all}
 use Rattle.semantics.specs.Items.{items_of}
 use Rattle.verifier.proofs.Rows.{few_items}
 use Rattle.machine.proofs.Places.{added}
-use Rattle.machine.proofs.frame.locals_of.Goals as goal
+use Rattle.machine.proofs.frame.Call.locals.Goals as goal
 
 pub loop-argument-init : goal.loop-argument-init
 loop-argument-init c = sym (append-nil (items_of c.repeat-locals.result))
@@ -12,7 +12,7 @@ pub loop-argument-preserved : goal.loop-argument-preserved
 loop-argument-preserved c =
     added 8 c.loop-argument.argument-index (items_of c.repeat-locals.result) c.as_slice-argument-items.result.now _ _ _ _
     c.loop-argument.invariant c.push.ensures.after refl c.loop-argument-test.true
-    (omega (arith, ap length c.repeat-locals.ensures, ap length c.as_slice-argument-items.ensures, few_items c.args.arguments.now))
+    (omega (arith, ap length c.repeat-locals.ensures, ap length c.as_slice-argument-items.ensures, few_items c.args.self.now.arguments))
 
 pub returns : goal.returns
 returns c =
