@@ -82,7 +82,7 @@ fn clashes<T: ClassTable>(table: &T, entry: &Entry, other: &Entry) -> bool
     other.name == entry.name && in_line && !same_signature(other, entry)
 }
 
-// What a lookup and the check know of the method.
+// What a lookup and the check know of the method. A `From` would be no shorter, and hide which of the two is meant at a call.
 pub fn entry_in(method: &Method) -> Entry
     ensures { entry_of result ≡ entry_in (method_of method.now) }
 {
