@@ -10,7 +10,7 @@ use semantics::method::{Label, Method};
 
 const MAX_POINTS: usize = 64;
 
-// For each point the number of the label that marks it, of the first where there are several.
+// For each point the number of the label that marks it, of the first where there are several. No map: nothing is allocated here.
 pub fn label_numbers(labels: &[Label]) -> ArrayVec<Option<usize>, 64>
     ensures { (p : ℕ) → p < 64 → slice_index_or (items_of result) p None ≡ label_number (map label_of labels.now) 0 p }
 {

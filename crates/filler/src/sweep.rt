@@ -55,10 +55,8 @@ impl Sweep {
     )
         ensures { sweep_meaning self.new ≡ falls_into (T.listed table.now) label (row_of current) (sweep_meaning self.old) }
     {
-        if let Some(label) = label {
-            if let Some(row) = current {
-                self.comes(table, &row, label);
-            }
+        if let (Some(label), Some(row)) = (label, current) {
+            self.comes(table, &row, label);
         }
     }
 

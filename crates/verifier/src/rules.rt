@@ -36,7 +36,7 @@ pub fn all_present<T: ClassTable, C: Cell>(
     first: usize,
     cells: &[C],
 ) -> Result<(), Refusal>
-    // An absent class is told by its place.
+    // The place of an absent class is told, so it has to be a number.
     requires { first + length cells.now < 2 ^ 64 }
     ensures { result ≡ classes_present (T.listed table.now) first (map C.Cell.kind cells.now) }
 {
@@ -67,6 +67,7 @@ fn rows_present<T: ClassTable>(table: &T, method: &Method) -> Result<(), Refusal
     Ok(())
 }
 
+// Not a derived `==`: an `ArrayVec` has none, since what stands behind its items means nothing.
 fn same_signature(entry: &Entry, other: &Entry) -> bool
     ensures { result ≡ same_signature (entry_of entry.now) (entry_of other.now) }
 {
@@ -81,7 +82,7 @@ fn clashes<T: ClassTable>(table: &T, entry: &Entry, other: &Entry) -> bool
     other.name == entry.name && in_line && !same_signature(other, entry)
 }
 
-// What a lookup and the check know of the method.
+// What a lookup and the check know of the method. A `From` would be no shorter, and hide which of the two is meant at a call.
 pub fn entry_in(method: &Method) -> Entry
     ensures { entry_of result ≡ entry_in (method_of method.now) }
 {
@@ -97,8 +98,7 @@ impl<T: ClassTable> Env<'_, T> {
     fn is_taken(&self, entry: &Entry) -> bool
         ensures { result ≡ taken (entry_of entry.now) (map entry_of self.now.entries.now) }
     {
-        let mut others = self.entries.iter();
-        others.any(|other| other.name == entry.name && other.class == entry.class)
+        self.entries.iter().any(|other| other.name == entry.name && other.class == entry.class)
     }
 
     fn agrees(&self, entry: &Entry) -> Result<(), Refusal>

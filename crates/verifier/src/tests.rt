@@ -3,9 +3,10 @@ ghost use Rattle.std.specs.Prelude.{◌≡◌, ◌<◌, ◌∷◌, map, length, 
 ghost use Rattle.semantics.specs.Entries.{entry_of, found};
 ghost use Rattle.semantics.specs.Items.{items_of};
 ghost use Rattle.semantics.specs.Methods.{method_of, op_of};
-ghost use Rattle.semantics.specs.Tests.{then, demand, operand_class, arguments_fit, taking, callee, may_hold, put_into, locals_of, own_tests};
+ghost use Rattle.semantics.specs.Tests.{then, demand, arguments_fit, taking, callee, may_hold, put_into, locals_of, own_tests};
 ghost use Rattle.semantics.specs.Tree.{fits};
 ghost use Rattle.verifier.specs.Answers.{answered};
+ghost use Rattle.verifier.specs.Typings.{class_in};
 
 use crate::env::Env;
 use classes::table::ClassTable;
@@ -90,7 +91,7 @@ struct Typing<'a> {
 
 impl Typing<'_> {
     fn class_of(&self, operand: Operand) -> u8
-        ensures { result ≡ operand_class (locals_of (method_of self.now.method.now)) (items_of self.now.row.now) operand }
+        ensures { result ≡ class_in self.now operand }
     {
         match operand {
             Operand::Local(n) => declared_class(self.method.class, &self.method.arguments, n),
@@ -100,7 +101,7 @@ impl Typing<'_> {
     }
 
     fn classes_of(&self, operands: &ArrayVec<Operand, 7>) -> ArrayVec<u8, 7>
-        ensures { items_of result ≡ map (operand_class (locals_of (method_of self.now.method.now)) (items_of self.now.row.now)) (items_of operands.now) }
+        ensures { items_of result ≡ map (class_in self.now) (items_of operands.now) }
     {
         let mut classes = ArrayVec::new(0);
         for operand in operands.as_slice() {
@@ -117,7 +118,7 @@ impl Typing<'_> {
         wanted: u8,
         misfit: Misfit,
     ) -> Result<ArrayVec<u8, 8>, Misfit>
-        ensures { answered items_of result ≡ then (demand (fits (T.listed table.now) (operand_class (locals_of (method_of self.now.method.now)) (items_of self.now.row.now) operand) wanted) misfit) (λ _. Ok (items_of self.now.row.now)) }
+        ensures { answered items_of result ≡ then (demand (fits (T.listed table.now) (class_in self.now operand) wanted) misfit) (λ _. Ok (items_of self.now.row.now)) }
     {
         demand(table.fits(self.class_of(operand), wanted), misfit)?;
         Ok(*self.row)
@@ -166,7 +167,7 @@ impl<T: ClassTable> Env<'_, T> {
         name: u8,
         arguments: &ArrayVec<Operand, 7>,
     ) -> Result<u8, Misfit>
-        ensures { result ≡ then (callee (T.listed self.now.table.now) (map entry_of self.now.entries.now) (operand_class (locals_of (method_of typing.now.method.now)) (items_of typing.now.row.now) receiver) name (map (operand_class (locals_of (method_of typing.now.method.now)) (items_of typing.now.row.now)) (items_of arguments.now))) (λ f. Ok f.entry.result) }
+        ensures { result ≡ then (callee (T.listed self.now.table.now) (map entry_of self.now.entries.now) (class_in typing.now receiver) name (map (class_in typing.now) (items_of arguments.now))) (λ f. Ok f.entry.result) }
     {
         let given = typing.classes_of(arguments);
         let class = typing.class_of(receiver);
