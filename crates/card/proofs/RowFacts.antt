@@ -1,6 +1,6 @@
 -- The rows of a card: those pushed, and the points of their code.
 use Rattle.std.proofs.Common.{◌≡◌, ℕ, ◌+◌, ◌<◌, ◌≤◌, List, [], ◌∷◌, ◌++◌, map, length, get_or, drop, sym, refl, ap, ◌∙◌, ⊎_elim, add_assoc, arith}
-use Rattle.std.proofs.lemmas.List.{drop_all, get_or-map, get_or_past, length-map}
+use Rattle.std.proofs.lemmas.List.{drop_all, get_or-map, length-map}
 use Rattle.std.proofs.lemmas.Bool.{cases_lt, cond-false, le-ltb}
 use Rattle.semantics.specs.declared.body.Body.{Body}
 use Rattle.semantics.specs.declared.body.Body.TheVariants.{Coded}
@@ -35,11 +35,6 @@ points_end bs i n all h inv =
     let z : points_of (map body_of (drop i bs)) ≡ 0 = ap (λ x. points_of (map body_of x)) (drop_all i bs h) in
     omega arith
 
--- the item of a number, or another that means d
-pub item_meant : {X Y : Type 0} (f : X → Y) (xs : List X) (i : ℕ) (x y : X) (d : Y) → x ≡ get_or xs i y → f y ≡ d → f x ≡ get_or (map f xs) i d
-item_meant f xs i x y d e h =
-    ap f e
-    ∙ ⊎_elim
-    (λ k. sym (get_or-map f xs i y d k))
-    (λ k. ap f (get_or_past xs i y k) ∙ h ∙ sym (get_or_past (map f xs) i d (omega (arith, length-map xs f))))
-    (cases_lt i (length xs))
+-- an item of a list, by its meaning f
+pub item_meant : {X Y : Type 0} (f : X → Y) (xs ys : List X) (i : ℕ) (x : X) (d : Y) → xs ≡ ys → x ≡ get_or xs i x → i < length ys → f x ≡ get_or (map f ys) i d
+item_meant f xs ys i x d e at h = ap f at ∙ ap (λ l. f (get_or l i x)) e ∙ sym (get_or-map f ys i x d h)

@@ -1,6 +1,8 @@
 -- The texts of rows.
-use Rattle.std.proofs.Common.{◌≡◌, ℕ, ◌<◌, ◌≤◌, length, Ok, Err, sym, ap, ◌∙◌}
+use Rattle.std.proofs.Common.{◌≡◌, ℕ, ◌<◌, ◌≤◌, length, Some, None, Ok, Err, Option, sym, ap, ◌∙◌}
+use Rattle.std.specs.Option.{ok_or}
 use Rattle.std.proofs.lemmas.Bool.{lt-ltb, le-ltb, cond-true, cond-false}
+use Rattle.semantics.specs.declared.refusal.Refusal.{Refusal}
 use Rattle.semantics.specs.declared.refusal.Refusal.TheVariants.{NoSuchRow, NativeRow}
 use Rattle.semantics.specs.Cards.{CardDef, text_behind, row_text}
 use Rattle.semantics.specs.Entries.{EntryDef}
@@ -21,3 +23,8 @@ module _ (k : CardDef) (r : ℕ) where
 
   pub coded_row : (e : EntryDef) (b : CodeDef) (m : MethodDef) → r < length k.store.entries → e ≡ entry_at k.store r → coded b ≡ body_at k.store r → m ≡ method_with e b → row_text k r ≡ Ok (method_text m)
   coded_row e b m h p q s = there h ∙ (λ i. text_behind (sym p i) (sym q i)) ∙ ap (λ x. Ok (method_text x)) (sym s)
+
+-- the refusal that is told where there is none
+pub told_of : {X : Type 0} (o : Option X) (d e : Refusal) → o ≡ None → Err d ≡ ok_or o e → d ≡ e
+told_of None d e n h = cc
+told_of (Some x) d e n h = cc

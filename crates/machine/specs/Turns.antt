@@ -6,9 +6,8 @@ use Rattle.semantics.specs.declared.ending.Ending.TheVariants.{NoAnswer, BrokenO
 use Rattle.semantics.specs.declared.misfit.Misfit.TheVariants as misfit
 use Rattle.semantics.specs.declared.operation.Operand.{Operand}
 use Rattle.semantics.specs.declared.refusal.Refusal.{Refusal}
-use Rattle.semantics.specs.declared.value.Answer.{Answer}
-use Rattle.semantics.specs.declared.value.Answer.TheVariants as answer
 use Rattle.semantics.specs.declared.value.Value.{Value}
+use Rattle.semantics.specs.Hosts.{Answer}
 use Rattle.semantics.specs.Runs.{FrameDef, RunDef, idle, in_hand, Turn, onward, ended, or_break, kind_of, operand_value, closed, Gone}
 use Rattle.semantics.specs.Stores.{Store, entry_at}
 use Rattle.semantics.specs.Tests.{Tested, demand}
@@ -45,8 +44,8 @@ or_stop f (Err e) = Err (stop_at (BrokenOff (break.Misfit e)) f)
 
 -- a value that the host gave in the wanted class
 abbrev pub given : List ℕ → FrameDef → ℕ → Answer → Result Value Stop
-given ps f wanted (answer.None cause) = Err (stop_at (NoAnswer cause) f)
-given ps f wanted (answer.Given v) = cond (fits ps (kind_of v) wanted) (Ok v) (Err (stop_at (BrokenOff break.AnswerClass) f))
+given ps f wanted (Err cause) = Err (stop_at (NoAnswer cause) f)
+given ps f wanted (Ok v) = cond (fits ps (kind_of v) wanted) (Ok v) (Err (stop_at (BrokenOff break.AnswerClass) f))
 
 -- what a step answers, the run that it leaves, and the condition of the host
 abbrev pub turned : {C : Type 0} → Result (Unit {0}) Stop → Frames → C → Turn C

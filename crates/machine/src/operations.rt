@@ -17,7 +17,7 @@ use semantics::method::Label;
 use semantics::misfit::Misfit;
 use semantics::operation::{Operand, Operation};
 use semantics::value::{BOOL, INT, Value};
-use verifier::check::FALLING_IN;
+use verifier::check::{FALLING_IN, row_at};
 use verifier::labels::named_fit;
 use verifier::tests::demand;
 
@@ -56,17 +56,15 @@ impl Frame {
     ) -> Result<(), Misfit>
         ensures { result ≡ at_label (T.listed table.now) (frame_of self.now).temporaries (label_at_point (map label_of labels.now) self.now.point) }
     {
-        for label in labels {
-            if label.point as usize == self.point {
-                return demand(
-                    row_fits(table, self.temporaries.as_slice(), label.row.as_slice()),
-                    Misfit::Row {
-                        operand: FALLING_IN,
-                    },
-                );
-            }
+        match row_at(labels, self.point) {
+            Some(row) => demand(
+                row_fits(table, self.temporaries.as_slice(), row.as_slice()),
+                Misfit::Row {
+                    operand: FALLING_IN,
+                },
+            ),
+            None => Ok(()),
         }
-        Ok(())
     }
 
     // The value that a return gives, where it fits the method's result.

@@ -10,18 +10,24 @@ impl<T: ClassTable> Card<T> {
     pub fn fits(&self, a: u32, b: u32) -> bool
         ensures { result ≡ fits (card_of T.listed self.now).store.classes a b }
     {
-        match (u8::try_from(a), u8::try_from(b)) {
-            (Ok(a), Ok(b)) => self.table.fits(a, b),
-            _ => false,
-        }
+        let Ok(a) = u8::try_from(a) else {
+            return false;
+        };
+        let Ok(b) = u8::try_from(b) else {
+            return false;
+        };
+        self.table.fits(a, b)
     }
 
     pub fn join(&self, a: u32, b: u32) -> u32
         ensures { result ≡ join (card_of T.listed self.now).store.classes a b }
     {
-        match (u8::try_from(a), u8::try_from(b)) {
-            (Ok(a), Ok(b)) => u32::from(self.table.join(a, b)),
-            _ => 0,
-        }
+        let Ok(a) = u8::try_from(a) else {
+            return 0;
+        };
+        let Ok(b) = u8::try_from(b) else {
+            return 0;
+        };
+        u32::from(self.table.join(a, b))
     }
 }

@@ -19,7 +19,6 @@ use semantics::ending::{End, Ending};
 use semantics::misfit::Misfit;
 use semantics::refusal::Refusal;
 use semantics::value::Value;
-use verifier::lookup::lookup;
 use verifier::tests::taking;
 
 // A misfit of a start, as it is told.
@@ -37,7 +36,7 @@ fn first_frame<T: ClassTable>(store: &Store<'_, T>, name: u8, call: &Call) -> Re
     ensures { answered frame_of result ≡ first_frame (store_of T.listed store.now) call.now.receiver name (items_of call.now.arguments) }
 {
     let env = &store.env;
-    let Some(row) = lookup(env.table, env.entries, call.receiver.class, name) else {
+    let Some(row) = env.lookup(call.receiver.class, name) else {
         return Err(Refusal::StartNoRow);
     };
     let code = store.code_at(row).ok_or(Refusal::NativeRow)?;

@@ -20,8 +20,7 @@ use semantics::body::Code;
 use semantics::ending::{Break, Ending};
 use semantics::entry::Entry;
 use semantics::operation::{Destination, Operand, Operation};
-use semantics::value::{Answer, Question, Value};
-use verifier::tests::callee;
+use semantics::value::{Question, Value};
 
 impl Frames {
     // A return: its test, and the frame is closed.
@@ -58,11 +57,11 @@ impl Frames {
             arguments: call.arguments,
         };
         let answer = host.ask(&question);
-        match answer {
-            Answer::None(cause) => Err(self.stop(Ending::NoAnswer(cause))),
-            Answer::Given(value) if table.fits(value.class, entry.result) => Ok(value),
-            Answer::Given(_) => Err(self.stop(Ending::BrokenOff(Break::AnswerClass))),
+        let value = answer.map_err(|cause| self.stop(Ending::NoAnswer(cause)))?;
+        if !table.fits(value.class, entry.result) {
+            return Err(self.stop(Ending::BrokenOff(Break::AnswerClass)));
         }
+        Ok(value)
     }
 
     // The called row: a native one puts its question, a coded one opens a frame.
@@ -100,13 +99,9 @@ impl Frames {
     {
         let call = self.top().call(receiver, arguments);
         let kinds = call.kinds();
-        let called = callee(
-            store.env.table,
-            store.env.entries,
-            call.receiver.class,
-            name,
-            kinds.as_slice(),
-        );
+        let called = store
+            .env
+            .callee(call.receiver.class, name, kinds.as_slice());
         let row = self.or_stop(called)?;
         self.call(store, host, row, into, &call)
     }

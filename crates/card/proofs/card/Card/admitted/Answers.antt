@@ -26,7 +26,7 @@ returns-in_err-room_for g c =
     let x = exits c.from_residual-in_err-room_for.result _ c.from_residual-in_err-room_for.ensures.1 in
     record {
       method = ap (answered method_of) x ∙ admitted_by k c.args.text.now m (Ok tt) (Ok tt) (Err c.in_err-room_for.field-0.0) _ c.in_ok-method.ensures.value c.in_ok-form.ensures.value
-          (c.in_ok-method_rules.ensures ∙ ap (λ es. entry_rules k.store.classes (map entry_of es) (entry_in m) (entry_classes (entry_in m) ++ row_classes m.labels)) c.entries.ensures)
+          (c.in_ok-method_rules.ensures ∙ (λ i. entry_rules (g.T.ClassTable.listed (c.env.ensures.table i)) (map entry_of (c.env.ensures.entries i)) (entry_in m) (entry_classes (entry_in m) ++ row_classes m.labels)))
           (c.in_err-room_for.ensures ∙ room_by _ _ _ _ _ _ (c.len.ensures ∙ sym (length-map (items_of c.args.self.now.rows.entries) entry_of)) c.points.ensures (c.len-2.ensures ∙ sym (length-map (items_of c.in_ok-method.method.code) op_of))) refl;
       room = made_not c.from_residual-in_err-room_for.result _ x;
     }
@@ -38,7 +38,7 @@ returns-in_err-checked g c =
     let x = exits c.from_residual-in_err-checked.result _ c.from_residual-in_err-checked.ensures.1 in
     record {
       method = ap (answered method_of) x ∙ admitted_by k c.args.text.now m (Ok tt) (Ok tt) (Ok tt) (Err c.in_err-checked.field-0.0) c.in_ok-method.ensures.value c.in_ok-form.ensures.value
-          (c.in_ok-method_rules.ensures ∙ ap (λ es. entry_rules k.store.classes (map entry_of es) (entry_in m) (entry_classes (entry_in m) ++ row_classes m.labels)) c.entries.ensures)
+          (c.in_ok-method_rules.ensures ∙ (λ i. entry_rules (g.T.ClassTable.listed (c.env.ensures.table i)) (map entry_of (c.env.ensures.entries i)) (entry_in m) (entry_classes (entry_in m) ++ row_classes m.labels)))
           (c.in_ok-room_for.ensures ∙ room_by _ _ _ _ _ _ (c.len.ensures ∙ sym (length-map (items_of c.args.self.now.rows.entries) entry_of)) c.points.ensures (c.len-2.ensures ∙ sym (length-map (items_of c.in_ok-method.method.code) op_of)))
           c.in_err-checked.ensures;
       room = made_not c.from_residual-in_err-checked.result _ x;
@@ -50,7 +50,7 @@ returns g c =
     let m = method_of c.in_ok-method.method in
     record {
       method = admitted_by k c.args.text.now m (Ok tt) (Ok tt) (Ok tt) (Ok tt) c.in_ok-method.ensures.value c.in_ok-form.ensures.value
-          (c.in_ok-method_rules.ensures ∙ ap (λ es. entry_rules k.store.classes (map entry_of es) (entry_in m) (entry_classes (entry_in m) ++ row_classes m.labels)) c.entries.ensures)
+          (c.in_ok-method_rules.ensures ∙ (λ i. entry_rules (g.T.ClassTable.listed (c.env.ensures.table i)) (map entry_of (c.env.ensures.entries i)) (entry_in m) (entry_classes (entry_in m) ++ row_classes m.labels)))
           (c.in_ok-room_for.ensures ∙ room_by _ _ _ _ _ _ (c.len.ensures ∙ sym (length-map (items_of c.args.self.now.rows.entries) entry_of)) c.points.ensures (c.len-2.ensures ∙ sym (length-map (items_of c.in_ok-method.method.code) op_of)))
           c.in_ok-checked.ensures;
       room = omega (arith, c.len.ensures, has_room c.len.result c.points.result c.len-2.result c.in_ok-room_for.ensures);

@@ -1,4 +1,4 @@
-use Rattle.std.proofs.Common.{map, length, ap, ◌∙◌}
+use Rattle.std.proofs.Common.{map, length, ◌∙◌}
 use Rattle.semantics.specs.Entries.{entry_of}
 use Rattle.semantics.specs.FillCall.{filled_answer}
 use Rattle.card.proofs.card.Card.fill.Goals as goal
@@ -6,4 +6,4 @@ use Rattle.card.proofs.card.Card.fill.Goals as goal
 pub returns-clause-answer : goal.returns-clause-answer
 returns-clause-answer g c =
     c.fill.ensures.answer
-    ∙ ap (λ es. filled_answer (g.T.ClassTable.listed c.args.self.now.table) (map entry_of es) c.args.text.now (length c.args.buffer.now)) c.entries.ensures
+    ∙ (λ i. filled_answer (g.T.ClassTable.listed (c.env.ensures.table i)) (map entry_of (c.env.ensures.entries i)) c.args.text.now (length c.args.buffer.now))

@@ -18,7 +18,7 @@ returns-in_err-room_for g c =
     record {
       row = ap (answered entry_of) out
           ∙ native_by k (signature c.args.class c.args.name c.args.arguments.now c.args.res) x (Ok tt) (Err c.in_err-room_for.field-0.0) c.in_ok-entry.ensures
-          (c.in_ok-entry_rules.ensures ∙ ap (λ es. entry_rules k.store.classes (map entry_of es) x (entry_classes x)) c.entries.ensures)
+          (c.in_ok-entry_rules.ensures ∙ (λ i. entry_rules (g.T.ClassTable.listed (c.env.ensures.table i)) (map entry_of (c.env.ensures.entries i)) x (entry_classes x)))
           (c.in_err-room_for.ensures ∙ room_by _ _ _ _ _ _ (c.len.ensures ∙ sym (length-map (items_of c.args.self.now.rows.entries) entry_of)) c.points.ensures refl);
       room = made_not {e = c.in_err-room_for.field-0.0} c.from_residual-in_err-room_for.result _ out;
     }
@@ -30,7 +30,7 @@ returns g c =
     record {
       row =
           native_by k (signature c.args.class c.args.name c.args.arguments.now c.args.res) x (Ok tt) (Ok tt) c.in_ok-entry.ensures
-          (c.in_ok-entry_rules.ensures ∙ ap (λ es. entry_rules k.store.classes (map entry_of es) x (entry_classes x)) c.entries.ensures)
+          (c.in_ok-entry_rules.ensures ∙ (λ i. entry_rules (g.T.ClassTable.listed (c.env.ensures.table i)) (map entry_of (c.env.ensures.entries i)) x (entry_classes x)))
           (c.in_ok-room_for.ensures ∙ room_by _ _ _ _ _ _ (c.len.ensures ∙ sym (length-map (items_of c.args.self.now.rows.entries) entry_of)) c.points.ensures refl);
       room = omega (arith, c.len.ensures, has_room c.len.result c.points.result 0 c.in_ok-room_for.ensures);
     }

@@ -1,7 +1,7 @@
 use Rattle.std.proofs.Common.{Ok, Err, refl, ap}
 use Rattle.semantics.specs.Cards.{CardDef, first_frame, with_run}
 use Rattle.semantics.specs.Items.{items_of}
-use Rattle.machine.specs.Frames.{store_of}
+use Rattle.machine.specs.Frames.{stored, store_of}
 use Rattle.semantics.proofs.Walks.{exits}
 use Rattle.card.specs.CardMeaning.{card_of}
 use Rattle.card.specs.Openings.{opening_of}
@@ -28,9 +28,9 @@ pub returns : goal.returns
 returns g c =
     let k : CardDef = card_of g.T.ClassTable.listed c.args.self.now in
     let o = c.in_ok-opening.opening in
-    let f = first_frame (store_of k.store.classes c.entries.result.now c.bodies.result.now) o.receiver o.name (items_of o.arguments) in
+    let f = first_frame (store_of g.T.ClassTable.listed c.store-store.result) o.receiver o.name (items_of o.arguments) in
     let p = start_begun k _ c.args.receiver c.args.name c.args.arguments.now c.begin.result f
     (started_by k c.args.receiver c.args.name c.args.arguments.now c.in_ok-free.ensures (opening_of o) (Ok tt) f c.in_ok-opening.ensures c.in_ok-present.ensures
-    (λ i. first_frame (store_of k.store.classes (c.entries.ensures i) (c.bodies.ensures i)) o.receiver o.name (items_of o.arguments)))
+    (λ i. first_frame (stored (g.T.ClassTable.listed (c.store-store.ensures.table i)) (c.store-store.ensures.entries i) (c.store-store.ensures.bodies i)) o.receiver o.name (items_of o.arguments)))
     c.begin.ensures.answer (ap (with_run k) c.begin.ensures.run) in
     record { answer = p.0; after = p.1 }
