@@ -1,7 +1,6 @@
 -- Values whose parts are taken one after the other.
 use Rattle.std.proofs.Common.{◌≡◌, ℕ, ◌<◌, ◌≤◌, List, [], ◌∷◌, length, get_or, Ok, Err, sym, refl, ap, ◌∙◌, arith}
 use Rattle.std.proofs.lemmas.Bool.{lt-leb, le-leb, cond-true, cond-false}
-use Rattle.semantics.specs.declared.refusal.Fault.{Fault}
 use Rattle.semantics.specs.declared.refusal.Fault.TheVariants.{Malformed, OutOfRange}
 use Rattle.semantics.specs.declared.operation.Operand.{Operand}
 use Rattle.semantics.specs.declared.operation.Destination.{Destination}
@@ -24,17 +23,9 @@ pub part_ok : {X : Type 0} (v : Piece) (L L' : List Piece) (says : Piece → Lis
 part_ok v [] L' says e l = let z : ◌≡◌ {A = ℕ} 0 1 = cc in absurd (omega arith)
 part_ok v (w ∷ ws) L' says e l = let k : w ≡ v = cc in λ i. says (k i) (sym l i)
 
-pub part_err : {X : Type 0} (f : Fault) (L : List Piece) (says : Piece → List Piece → Said X) → Err f ≡ taken L → with_part L says ≡ Err f
-part_err f [] says e = cc
-part_err f (w ∷ ws) says e = let z : ◌≡◌ {A = ℕ} 0 1 = cc in absurd (omega arith)
-
 pub end_ok : {X : Type 0} (u : Unit {0}) (L : List Piece) (s : Said X) → Ok u ≡ ended L → at_end L s ≡ s
 end_ok u [] s e = refl
 end_ok u (v ∷ vs) s e = let z : ◌≡◌ {A = ℕ} 0 1 = cc in absurd (omega arith)
-
-pub end_err : {X : Type 0} (f : Fault) (L : List Piece) (s : Said X) → Err f ≡ ended L → at_end L s ≡ Err f
-end_err f [] s e = let z : ◌≡◌ {A = ℕ} 0 1 = cc in absurd (omega arith)
-end_err f (v ∷ vs) s e = cc
 
 -- the values by their parts
 pub jump_if_by : (L : List Piece) → jump_if_of L ≡ with_part L (λ a L'. with_part L' (λ n L''. at_end L'' (mapped (λ x. jump_if x.0 x.1) (both (operand_at a) (number_at 63 n)))))
