@@ -1,9 +1,8 @@
 -- What a turn over digits keeps.
-use Rattle.std.proofs.Common.{◌≡◌, ℕ, ◌+◌, ◌-◌, ◌*◌, ◌<◌, ◌≤◌, true, eqb, List, [], ◌∷◌, length, get_or, drop, None, sym, refl, ◌∙◌, subst, ⊎_elim, arith}
-use Rattle.std.specs.Str.{all_ascii_digits}
-use Rattle.std.proofs.lemmas.List.{at_drop_more, nil_from_length}
-use Rattle.std.proofs.lemmas.Bool.{lt-leb, cond-true, cond-false, cases_Bool, eqb-true, false≢true}
-use Rattle.semantics.specs.Numbers.{value_on, is_numeral}
+use Rattle.std.proofs.Common.{◌≡◌, ℕ, ◌+◌, ◌-◌, ◌*◌, ◌<◌, ◌≤◌, List, [], ◌∷◌, length, get_or, drop, None, sym, ◌∙◌, arith}
+use Rattle.std.proofs.lemmas.List.{at_drop_more}
+use Rattle.std.proofs.lemmas.Bool.{lt-leb, cond-false}
+use Rattle.semantics.specs.Numbers.{value_on}
 use Rattle.text.specs.Digits.{up_to_max}
 
 value_more : (n : ℕ) (xs : List ℕ) (i : ℕ) → i < length xs → value_on n (drop i xs) ≡ value_on (10 * n + (get_or xs i 0 - 48)) (drop (i + 1) xs)
@@ -18,13 +17,3 @@ value_ge n (c ∷ cs) = omega (arith, value_ge (10 * n + (c - 48)) cs)
 pub value_over : (max n v : ℕ) (xs : List ℕ) (i : ℕ) → i < length xs → max < 10 * n + (get_or xs i 0 - 48) → value_on n (drop i xs) ≡ v → None ≡ up_to_max max v
 value_over max n v xs i h over inv =
     sym (cond-false _ _ _ (lt-leb v max (omega (arith, value_ge (10 * n + (get_or xs i 0 - 48)) (drop (i + 1) xs), sym (value_more n xs i h) ∙ inv))))
-
-pub numeral_digits : (ds : List ℕ) → is_numeral ds ≡ true → all_ascii_digits ds ≡ true
-numeral_digits [] h = absurd (false≢true h)
-numeral_digits (c ∷ cs) h = ⊎_elim
-    (λ e.
-    let n : eqb (length cs) 0 ≡ true = sym (cond-true _ _ _ e) ∙ h in
-    let l : cs ≡ [] = nil_from_length cs (eqb-true _ 0 n) in
-    subst (λ l. all_ascii_digits (c ∷ l) ≡ true) (sym l) (subst (λ x. all_ascii_digits (x ∷ []) ≡ true) (sym (eqb-true c 48 e)) refl))
-    (λ e. sym (cond-false _ _ _ e) ∙ h)
-    (cases_Bool (eqb c 48))

@@ -1,6 +1,5 @@
 pub mod Cuts
 pub mod Digits
-pub mod Listing
 pub mod Taking
 pub mod Words
 pub mod Bodies

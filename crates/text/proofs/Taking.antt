@@ -1,13 +1,12 @@
 -- Values whose parts are taken one after the other.
 use Rattle.std.proofs.Common.{◌≡◌, ℕ, ◌<◌, ◌≤◌, List, [], ◌∷◌, length, get_or, Ok, Err, sym, refl, ap, ◌∙◌, arith}
 use Rattle.std.proofs.lemmas.Bool.{lt-leb, le-leb, cond-true, cond-false}
-use Rattle.semantics.specs.declared.refusal.Fault.{Fault}
 use Rattle.semantics.specs.declared.refusal.Fault.TheVariants.{Malformed, OutOfRange}
 use Rattle.semantics.specs.declared.operation.Operand.{Operand}
 use Rattle.semantics.specs.declared.operation.Destination.{Destination}
-use Rattle.semantics.specs.Methods.{Op, return, jump_if, jump_list}
+use Rattle.semantics.specs.Methods.{Op, jump_if, jump_list}
 use Rattle.semantics.specs.Pieces.{Piece, parted}
-use Rattle.semantics.specs.Values.{Said, mapped, both, list_on, list_of, number_at, operand_at, destination_at, return_of, jump_if_of, jump_list_of, invocation, invoke_of, label, row_at, label_parts, lettered, operation_of, operation_at}
+use Rattle.semantics.specs.Values.{Said, mapped, both, list_on, list_of, number_at, operand_at, destination_at, jump_if_of, jump_list_of, invocation, invoke_of, label, row_at, label_parts, lettered, operation_of, operation_at}
 use Rattle.text.specs.Parts.{taken, rest, ended}
 
 -- a part that is due, and then what is said of it and of the parts behind it
@@ -24,24 +23,11 @@ pub part_ok : {X : Type 0} (v : Piece) (L L' : List Piece) (says : Piece → Lis
 part_ok v [] L' says e l = let z : ◌≡◌ {A = ℕ} 0 1 = cc in absurd (omega arith)
 part_ok v (w ∷ ws) L' says e l = let k : w ≡ v = cc in λ i. says (k i) (sym l i)
 
-pub part_err : {X : Type 0} (f : Fault) (L : List Piece) (says : Piece → List Piece → Said X) → Err f ≡ taken L → with_part L says ≡ Err f
-part_err f [] says e = cc
-part_err f (w ∷ ws) says e = let z : ◌≡◌ {A = ℕ} 0 1 = cc in absurd (omega arith)
-
 pub end_ok : {X : Type 0} (u : Unit {0}) (L : List Piece) (s : Said X) → Ok u ≡ ended L → at_end L s ≡ s
 end_ok u [] s e = refl
 end_ok u (v ∷ vs) s e = let z : ◌≡◌ {A = ℕ} 0 1 = cc in absurd (omega arith)
 
-pub end_err : {X : Type 0} (f : Fault) (L : List Piece) (s : Said X) → Err f ≡ ended L → at_end L s ≡ Err f
-end_err f [] s e = let z : ◌≡◌ {A = ℕ} 0 1 = cc in absurd (omega arith)
-end_err f (v ∷ vs) s e = cc
-
 -- the values by their parts
-pub return_by : (L : List Piece) → return_of L ≡ with_part L (λ a L'. at_end L' (mapped return (operand_at a)))
-return_by [] = refl
-return_by (a ∷ []) = refl
-return_by (a ∷ b ∷ vs) = refl
-
 pub jump_if_by : (L : List Piece) → jump_if_of L ≡ with_part L (λ a L'. with_part L' (λ n L''. at_end L'' (mapped (λ x. jump_if x.0 x.1) (both (operand_at a) (number_at 63 n)))))
 jump_if_by [] = refl
 jump_if_by (a ∷ []) = refl

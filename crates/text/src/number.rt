@@ -29,6 +29,8 @@ fn is_numeral(bytes: &[u8]) -> bool
     }
 }
 
+// The casts in this file are exact by proved bounds: `try_from` would add a refusal that never comes.
+
 // The number that the digits write, if it is at most `max`.
 fn up_to_max(digits: &[u8], max: u32) -> Option<u32>
     requires { all_ascii_digits digits.now ≡ true }
@@ -44,6 +46,7 @@ fn up_to_max(digits: &[u8], max: u32) -> Option<u32>
     Some(n as u32)
 }
 
+// Limits differ from line to line, so a bound stands beside the value: a type for each limit would be no plainer.
 fn numeral(part: Part<'_>, max: u32) -> Result<u32, Fault>
     ensures value { result ≡ number_at max (piece_of part.entry) }
     ensures bound { IfOk result (λ n. n ≤ max) }

@@ -47,7 +47,10 @@ fn read_head(reader: &mut Reader<'_>) -> Result<Head, Refusal>
     })
 }
 
-fn read_labels(reader: &mut Reader<'_>, temporaries: Temporaries) -> Result<ArrayVec<Label, 16>, Refusal>
+fn read_labels(
+    reader: &mut Reader<'_>,
+    temporaries: Temporaries,
+) -> Result<ArrayVec<Label, 16>, Refusal>
     ensures { read_as labels_of result (left_of reader.new) ≡ labels_on 16 temporaries.count [] (left_of reader.old) }
 {
     let mut labels = ArrayVec::new(Label {

@@ -55,7 +55,7 @@ impl<'a> Reader<'a> {
         self.left.bytes.starts_with(word)
     }
 
-    // The value of the next line, which is to have that word.
+    // The value of the next line, which is to have that word. A type of words without byte 10 would wrap each literal of read.rt.
     fn line(&mut self, word: &[u8]) -> Result<Part<'a>, Refusal>
         requires { up_to 10 word.now ≡ length word.now }
         ensures value { piece_read result ≡ line_of word.now (left_of self.old) }

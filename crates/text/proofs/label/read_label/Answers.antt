@@ -5,7 +5,7 @@ use Rattle.semantics.specs.Methods.{LabelDef, label_of}
 use Rattle.semantics.specs.Values.{mapped, both, number_at, row_at, label, label_parts, label_at}
 use Rattle.text.specs.Parts.{piece_of, parts_left}
 use Rattle.semantics.proofs.Walks.{exits}
-use Rattle.text.proofs.Taking.{at_end, part_ok, end_ok, end_err, label_by, both_mapped, mapped_twice}
+use Rattle.text.proofs.Taking.{at_end, part_ok, end_ok, label_by, both_mapped, mapped_twice}
 use Rattle.text.proofs.label.read_label.Goals as goal
 use Rattle.text.proofs.label.read_label.Goals.{In_ok-next_part-2, After-both}
 

@@ -7,7 +7,7 @@ use Rattle.semantics.specs.Methods.{Op, op_of}
 use Rattle.semantics.specs.Values.{mapped, both, number_at, operand_at, destination_at, list_of, invocation, invoke_of}
 use Rattle.text.specs.Parts.{piece_of, parts_left}
 use Rattle.semantics.proofs.Walks.{exits}
-use Rattle.text.proofs.Taking.{with_part, part_ok, part_err, invoke_by, invoked, invoked_malformed, invoked_over, list_few, list_many}
+use Rattle.text.proofs.Taking.{with_part, part_ok, invoke_by, invoked, invoked_malformed, invoked_over, list_few, list_many}
 use Rattle.text.proofs.operation.read_invoke.Goals as goal
 use Rattle.text.proofs.operation.read_invoke.Goals.{In_ok-next_part-2, In_ok-next_part-3, After-both-3}
 

@@ -4,7 +4,7 @@ use Rattle.semantics.specs.Methods.{Op, op_of, jump_if}
 use Rattle.semantics.specs.Values.{mapped, both, number_at, operand_at, jump_if_of}
 use Rattle.text.specs.Parts.{piece_of, parts_left}
 use Rattle.semantics.proofs.Walks.{exits}
-use Rattle.text.proofs.Taking.{with_part, at_end, part_ok, part_err, end_ok, end_err, jump_if_by}
+use Rattle.text.proofs.Taking.{with_part, at_end, part_ok, end_ok, jump_if_by}
 use Rattle.text.proofs.operation.read_jump_if.Goals as goal
 use Rattle.text.proofs.operation.read_jump_if.Goals.{In_ok-next_part, In_ok-next_part-2, In_ok-end}
 

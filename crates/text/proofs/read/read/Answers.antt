@@ -1,5 +1,4 @@
 use Rattle.std.proofs.Common.{◌≡◌, List, [], Ok, Result, sym, ap, ◌∙◌}
-use Rattle.std.proofs.lemmas.Result.{IfOk-from_err}
 use Rattle.semantics.specs.declared.refusal.Refusal.{Refusal}
 use Rattle.semantics.specs.Methods.{LabelDef, MethodDef, method_of}
 use Rattle.semantics.specs.Reading.{Read, read, so, Head, head_at, labels_on, code_on, method_from, method_in}

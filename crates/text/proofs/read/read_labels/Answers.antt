@@ -1,4 +1,4 @@
-use Rattle.std.proofs.Common.{◌≡◌, ◌-◌, ◌<◌, length, Err, refl, sym, ap, ◌∙◌, arith}
+use Rattle.std.proofs.Common.{◌≡◌, ◌-◌, ◌<◌, length, Err, sym, ap, ◌∙◌, arith}
 use Rattle.semantics.specs.declared.refusal.Refusal.TheVariants.{Line}
 use Rattle.semantics.specs.Items.{items_of}
 use Rattle.semantics.specs.Methods.{label_of}
