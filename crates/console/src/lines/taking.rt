@@ -1,5 +1,6 @@
 // Taking lines.
 ghost use Rattle.std.specs.Prelude.{◌≡◌, ◌≤◌, length};
+ghost use Rattle.std.specs.Iterator.{at_most};
 ghost use Rattle.console.specs.Coming.{to_come, Shorter};
 
 use crate::lines::Lines;
@@ -33,20 +34,6 @@ impl<'a> Lines<'a> {
         self.taken
     }
 
-    // The next line, without its end; the last may have none.
-    pub fn next(&mut self) -> Option<&'a [u8]>
-        ensures { Shorter result (to_come self.old) (to_come self.new) }
-    {
-        let left = self.left;
-        if left.is_empty() {
-            return None;
-        }
-        let length = line_length(left);
-        self.left = &left[left.len().min(length + 1)..];
-        self.taken += 1;
-        Some(&left[..length])
-    }
-
     // The lines up to one that is a dot, which is taken too.
     pub fn block(&mut self) -> Option<&'a [u8]>
         ensures { to_come self.new ≤ to_come self.old }
@@ -60,5 +47,25 @@ impl<'a> Lines<'a> {
             length = text.len() - self.left.len();
         }
         None
+    }
+}
+
+impl<'a> Iterator for Lines<'a> {
+    type Item = &'a [u8];
+
+    ghost next_gives = { λ s r t. Shorter r (to_come s) (to_come t) };
+
+    ghost remaining = { λ s. at_most (to_come s) };
+
+    // The next line, without its end; the last may have none.
+    fn next(&mut self) -> Option<&'a [u8]> {
+        let left = self.left;
+        if left.is_empty() {
+            return None;
+        }
+        let length = line_length(left);
+        self.left = &left[left.len().min(length + 1)..];
+        self.taken += 1;
+        Some(&left[..length])
     }
 }

@@ -4,6 +4,3 @@ use Rattle.console.proofs.lines.Lines.block.Given as goal
 
 abbrev pub invariant-loop-line : goal.invariant-loop-line
 invariant-loop-line l = (l.length ≤ length l.text) × (to_come l.self ≤ length l.text)
-
-abbrev pub decreases-loop-line : goal.decreases-loop-line
-decreases-loop-line l = to_come l.self
