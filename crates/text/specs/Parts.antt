@@ -55,10 +55,6 @@ parts_in sep None = []
 abbrev pub parts_left : Parts → List Piece
 parts_left ps = parts_in ps.separator ps.left
 
-abbrev pub first : List Piece → Option Piece
-first [] = None
-first (v ∷ vs) = Some v
-
 abbrev pub rest : List Piece → List Piece
 rest [] = []
 rest (v ∷ vs) = vs

@@ -152,28 +152,24 @@ fn is_labelled(labels: &[Label], point: usize) -> bool
     labels.iter().any(|label| usize::from(label.point) == point)
 }
 
-// Whether the code may stand so: the last operation leaves, and behind any other that leaves stands a label.
-fn ends(operation: &Operation, is_last: bool, label_behind: bool) -> bool
-    ensures { result ≡ cond is_last (leaves (op_of operation.now)) (not (leaves (op_of operation.now)) || label_behind) }
-{
-    if is_last {
-        leaves(operation)
-    } else {
-        !leaves(operation) || label_behind
-    }
-}
-
+// The last operation leaves, and behind any other that leaves stands a label.
 fn code_ends(code: &[Operation], labels: &[Label]) -> Result<(), Refusal>
     ensures { result ≡ code_ends (map label_of labels.now) 0 (map op_of code.now) }
 {
-    for (point, operation) in code.iter().enumerate() {
-        let behind = is_labelled(labels, point + 1);
-        must(
-            ends(operation, point + 1 == code.len(), behind),
-            Refusal::OpenEnd { point },
-        )?;
+    let Some((last, others)) = code.split_last() else {
+        return Ok(());
+    };
+    for (point, operation) in others.iter().enumerate() {
+        if leaves(operation) && !is_labelled(labels, point + 1) {
+            return Err(Refusal::OpenEnd { point });
+        }
     }
-    Ok(())
+    must(
+        leaves(last),
+        Refusal::OpenEnd {
+            point: others.len(),
+        },
+    )
 }
 
 // The rules, one after the other over the whole method.
