@@ -13,13 +13,13 @@ use crate::frame::Frame;
 use classes::rows::row_fits;
 use classes::table::ClassTable;
 use semantics::array_vec::ArrayVec;
+use semantics::demand::demand;
 use semantics::method::Label;
 use semantics::misfit::Misfit;
 use semantics::operation::{Operand, Operation};
 use semantics::value::{BOOL, INT, Value};
 use verifier::check::{FALLING_IN, row_at};
 use verifier::labels::named_fit;
-use verifier::tests::demand;
 
 // A jump: the frame that stands at it, the labels of the frame's code, and the operation.
 #[derive(Drop)]

@@ -5,6 +5,7 @@ pub mod array_vec;
 pub mod body;
 pub mod call;
 pub mod check_laws;
+pub mod demand;
 pub mod ending;
 pub mod entry;
 pub mod fill_laws;

@@ -6,15 +6,10 @@ ghost use Rattle.semantics.specs.declared.refusal.Refusal.TheVariants.{Absent};
 ghost use Rattle.semantics.specs.Methods.{op_of, label_of, method_of};
 ghost use Rattle.text.specs.Scopes.{scope_from};
 
+use semantics::demand::demand;
 use semantics::method::{Label, Method};
 use semantics::operation::{Destination, Operand, Operation};
 use semantics::refusal::Refusal;
-
-fn must(holds: bool, refusal: Refusal) -> Result<(), Refusal>
-    ensures { result ≡ must holds refusal }
-{
-    if holds { Ok(()) } else { Err(refusal) }
-}
 
 // Label points rise strictly and lie in the method.
 fn labels_rise(labels: &[Label], points: usize) -> Result<(), Refusal>
@@ -84,7 +79,7 @@ impl Scope {
     fn has<T: Name>(&self, point: usize, operand: usize, name: T) -> Result<(), Refusal>
         ensures { result ≡ must (present (scope_from self.now) (T.named name)) (Absent point operand) }
     {
-        must(name.is_in(self), Refusal::Absent { point, operand })
+        demand(name.is_in(self), Refusal::Absent { point, operand })
     }
 
     // The same of the operands from `first` on.
@@ -164,7 +159,7 @@ fn code_ends(code: &[Operation], labels: &[Label]) -> Result<(), Refusal>
             return Err(Refusal::OpenEnd { point });
         }
     }
-    must(
+    demand(
         leaves(last),
         Refusal::OpenEnd {
             point: others.len(),

@@ -4,10 +4,10 @@ ghost use Rattle.semantics.specs.Items.{items_of};
 ghost use Rattle.semantics.specs.Methods.{label_of, op_of};
 ghost use Rattle.semantics.specs.Tests.{label_row, named_labels, first_label, cells_fit};
 
-use crate::tests::demand;
 use classes::rows::{Cell, row_fits};
 use classes::table::ClassTable;
 use semantics::array_vec::ArrayVec;
+use semantics::demand::demand;
 use semantics::method::Label;
 use semantics::misfit::Misfit;
 use semantics::operation::Operation;

@@ -12,6 +12,7 @@ ghost use Rattle.semantics.specs.Tree.{present};
 use crate::env::Env;
 use classes::rows::Cell;
 use classes::table::ClassTable;
+use semantics::demand::demand;
 use semantics::entry::Entry;
 use semantics::method::Method;
 use semantics::refusal::{Capacity, Refusal};
@@ -23,11 +24,7 @@ const MAX_POINTS: usize = 1024;
 pub fn present<T: ClassTable>(table: &T, place: usize, class: u8) -> Result<(), Refusal>
     ensures { result ≡ must (present (T.listed table.now) class) (ClassAbsent place) }
 {
-    if class < table.count() {
-        Ok(())
-    } else {
-        Err(Refusal::ClassAbsent { place })
-    }
+    demand(class < table.count(), Refusal::ClassAbsent { place })
 }
 
 // The class of each cell, of which the first has the place `first`.

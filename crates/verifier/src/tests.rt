@@ -11,6 +11,7 @@ ghost use Rattle.verifier.specs.Typings.{class_in};
 use crate::env::Env;
 use classes::table::ClassTable;
 use semantics::array_vec::ArrayVec;
+use semantics::demand::demand;
 use semantics::entry::Entry;
 use semantics::method::Method;
 use semantics::misfit::Misfit;
@@ -21,12 +22,6 @@ use semantics::value::{BOOL, INT};
 const NAME: usize = 2;
 
 const FIRST_ARGUMENT: usize = 3;
-
-pub fn demand(holds: bool, misfit: Misfit) -> Result<(), Misfit>
-    ensures { result ≡ demand holds misfit }
-{
-    if holds { Ok(()) } else { Err(misfit) }
-}
 
 // The class that a local is declared with, in a method of a class with arguments of these classes: the receiver's, then those of the arguments.
 fn declared_class(class: u8, arguments: &ArrayVec<u8, 7>, local: u8) -> u8
