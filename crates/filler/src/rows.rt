@@ -41,5 +41,5 @@ pub fn joined_into<T: ClassTable>(
 pub fn differs(old: Option<ArrayVec<u8, 8>>, new: &ArrayVec<u8, 8>) -> bool
     ensures { result ≡ differs (row_of old) (items_of new.now) }
 {
-    old.is_none_or(|old| old.as_slice() != new.as_slice())
+    old.map_or(true, |old| old.as_slice() != new.as_slice())
 }
