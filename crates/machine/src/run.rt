@@ -11,6 +11,7 @@ pub mod stop;
 
 pub const MAX_FRAMES: usize = 8;
 
+// An enum of its own, since the `None` of an `Option` would not say that the run is idle.
 #[derive(Clone, Copy)]
 pub enum Run {
     Idle,
@@ -18,6 +19,7 @@ pub enum Run {
 }
 
 // Eight frame records, of which the first `depth` are open and the last of those is on top.
+// A plain array and a count, as the project's rule has it: a run takes fixed memory, and its top frame is changed in place.
 #[derive(Clone, Copy)]
 pub struct Frames {
     frames: [Frame; MAX_FRAMES],

@@ -1,4 +1,4 @@
-// A list of at most N items, kept in an array.
+// A list of at most N items, kept in an array: no call allocates, so it is no `Vec`.
 ghost use Rattle.std.specs.Prelude.{◌≡◌, ◌≤◌, length, ⊤};
 
 use std::alloc::AllocError;

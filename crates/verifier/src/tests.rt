@@ -154,7 +154,7 @@ impl<T: ClassTable> Env<'_, T> {
         Ok(row)
     }
 
-    // The result class of the row that an invocation calls.
+    // The result class of the row that an invocation calls; its operands come apart, as the operation's own fields.
     fn result_class(
         &self,
         typing: &Typing<'_>,
@@ -170,6 +170,7 @@ impl<T: ClassTable> Env<'_, T> {
         Ok(self.entries[called].result)
     }
 
+    // The method, the row and the operation stay apart: each caller walks over one of them and holds the others.
     // An operation's own tests where the temporaries have the classes of `row`, and the row behind it.
     pub fn own_tests(
         &self,

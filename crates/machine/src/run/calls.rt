@@ -36,9 +36,9 @@ fn first_frame<T: ClassTable>(store: &Store<'_, T>, name: u8, call: &Call) -> Re
     ensures { answered frame_of result ≡ first_frame (store_of T.listed store.now) call.now.receiver name (items_of call.now.arguments) }
 {
     let env = &store.env;
-    let Some(row) = env.lookup(call.receiver.class, name) else {
-        return Err(Refusal::StartNoRow);
-    };
+    let row = env
+        .lookup(call.receiver.class, name)
+        .ok_or(Refusal::StartNoRow)?;
     let code = store.code_at(row).ok_or(Refusal::NativeRow)?;
     let kinds = call.kinds();
     taking(env.table, &env.entries[row], kinds.as_slice()).map_err(start_refusal)?;

@@ -60,7 +60,7 @@ impl<T: Copy, const N: usize> ArrayVec<T, N> {
         self.as_slice().get(at).copied().unwrap_or(other)
     }
 
-    // Another item in the place of that number, if there is one.
+    // Another item in the place of that number, if there is one. A `get_mut` of the used part would say no more.
     #[tactic(auto, using(crate::proofs::Items::used_part))]
     pub fn set(&mut self, at: usize, value: T)
         ensures { items_of self.new ≡ slice_set (items_of self.old) at value }
