@@ -2,5 +2,4 @@ pub mod RowFacts
 pub mod Ranges
 pub mod AddingFacts
 pub mod TextFacts
-pub mod ValueFacts
 pub mod StartFacts
