@@ -1,6 +1,2 @@
-pub mod RowFacts
 pub mod Ranges
-pub mod AddingFacts
-pub mod TextFacts
-pub mod ValueFacts
 pub mod StartFacts

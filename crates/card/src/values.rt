@@ -11,7 +11,7 @@ ghost use Rattle.semantics.specs.Runs.{kind_of};
 ghost use Rattle.verifier.specs.Answers.{answered};
 ghost use Rattle.card.specs.Openings.{opening_of, opened};
 
-use crate::numbers::{MAX_ARGUMENTS, MAX_CLASS, MAX_NAME};
+use crate::numbers::{Handed, all_small};
 use classes::table::ClassTable;
 use semantics::array_vec::ArrayVec;
 use semantics::call::Offered;
@@ -27,36 +27,19 @@ pub struct Opening {
     pub arguments: ArrayVec<Value, 7>,
 }
 
-fn value_of(offered: Offered) -> Result<Value, Refusal>
-    ensures { result ≡ so (must (nat_le offered.class 63 && in_range offered.number) ArgumentOutOfRange) (λ _. Ok (taken offered)) }
-{
-    if offered.class > MAX_CLASS {
-        return Err(Refusal::ArgumentOutOfRange);
-    }
-    match i32::try_from(offered.number) {
-        Ok(number) => Ok(Value {
-            class: offered.class as u8,
-            number,
-        }),
-        Err(_) => Err(Refusal::ArgumentOutOfRange),
-    }
-}
+// A value: its class, and a number of 32 bits.
+impl Handed for Offered {
+    type Small = Value;
 
-fn values_of(offered: &[Offered]) -> Result<ArrayVec<Value, 7>, Refusal>
-    ensures { answered items_of result ≡ so (must (numbers_in_range offered.now && nat_le (length offered.now) 7) ArgumentOutOfRange) (λ _. Ok (map taken offered.now)) }
-{
-    if offered.len() > MAX_ARGUMENTS {
-        return Err(Refusal::ArgumentOutOfRange);
+    ghost allowed = { λ offered. nat_le offered.class 63 && in_range offered.number };
+
+    ghost taken = { taken };
+
+    fn small(&self) -> Result<Value, Refusal> {
+        let class = self.class.small()?;
+        let number = i32::try_from(self.number).map_err(|_| Refusal::ArgumentOutOfRange)?;
+        Ok(Value { class, number })
     }
-    let mut values = ArrayVec::new(Value {
-        class: 0,
-        number: 0,
-    });
-    for one in offered {
-        let value = value_of(*one)?;
-        let _ = values.push(value);
-    }
-    Ok(values)
 }
 
 impl Opening {
@@ -64,15 +47,11 @@ impl Opening {
     pub fn of(receiver: Offered, name: u32, arguments: &[Offered]) -> Result<Opening, Refusal>
         ensures { answered opening_of result ≡ opened receiver name arguments.now }
     {
-        let receiver = value_of(receiver)?;
-        let arguments = values_of(arguments)?;
-        if name > MAX_NAME {
-            return Err(Refusal::ArgumentOutOfRange);
-        }
+        let receiver = receiver.small()?;
         Ok(Opening {
             receiver,
-            name: name as u8,
-            arguments,
+            name: u8::try_from(name).map_err(|_| Refusal::ArgumentOutOfRange)?,
+            arguments: all_small(arguments, receiver)?,
         })
     }
 

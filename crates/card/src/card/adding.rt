@@ -4,7 +4,8 @@ ghost use Rattle.semantics.specs.Cards.{blank_card, class_answer, class_after, s
 ghost use Rattle.semantics.specs.Entries.{entry_of};
 ghost use Rattle.semantics.specs.Items.{items_of};
 ghost use Rattle.semantics.specs.Methods.{method_of};
-ghost use Rattle.semantics.specs.Stores.{body_of};
+ghost use Rattle.semantics.specs.NewRows.{room_for};
+ghost use Rattle.semantics.specs.Stores.{body_of, points_of};
 ghost use Rattle.verifier.specs.Answers.{answered};
 ghost use Rattle.card.specs.CardMeaning.{card_of};
 
@@ -57,21 +58,12 @@ impl<T: ClassTable> Card<T> {
         number
     }
 
-    // The entry of a native row, where it may be added.
-    fn native_entry(
-        &self,
-        class: u32,
-        name: u32,
-        arguments: &[u32],
-        res: u32,
-    ) -> Result<Entry, Refusal>
-        ensures row { answered entry_of result ≡ native_row (card_of T.listed self.now) (signature class name arguments.now res) }
-        ensures room { OnOk result (length (items_of self.now.rows.entries) < 64) }
+    // Whether there is room for one row more, with `more` points.
+    fn room(&self, more: usize) -> Result<(), Refusal>
+        ensures answer { result ≡ room_for (length (card_of T.listed self.now).store.entries) (points_of (card_of T.listed self.now).store.bodies) more }
+        ensures there { OnOk result (length (items_of self.now.rows.entries) < 64) }
     {
-        let entry = entry_of(class, name, arguments, res)?;
-        self.rows.env(&self.table).entry_rules(&entry)?;
-        room_for(self.rows.len(), self.rows.points(), 0)?;
-        Ok(entry)
+        room_for(self.rows.len(), self.rows.points(), more)
     }
 
     // A new native row, and its number.
@@ -85,7 +77,9 @@ impl<T: ClassTable> Card<T> {
         ensures answer { result ≡ native_answer (card_of T.listed self.old) (signature class name arguments.now res) }
         ensures after { card_of T.listed self.new ≡ native_after (card_of T.listed self.old) (signature class name arguments.now res) }
     {
-        let entry = self.native_entry(class, name, arguments, res)?;
+        let entry = entry_of(class, name, arguments, res)?;
+        self.rows.env(&self.table).entry_rules(&entry)?;
+        self.room(0)?;
         Ok(self.add_row(entry, Body::Native))
     }
 
@@ -115,7 +109,7 @@ impl<T: ClassTable> Card<T> {
         let method = read(text)?;
         form(&method)?;
         self.rows.env(&self.table).method_rules(&method)?;
-        room_for(self.rows.len(), self.rows.points(), method.code.len())?;
+        self.room(method.code.len())?;
         self.checked(&method)?;
         Ok(method)
     }

@@ -24,7 +24,7 @@ fn points_in(body: &Body) -> usize
     }
 }
 
-// The code of a method.
+// The code of a method. A `From` would be no shorter, and hide that the signature is left behind.
 pub fn code_in(method: &Method) -> Code
     ensures { code_of result ≡ code_in (method_of method.now) }
 {
@@ -35,7 +35,7 @@ pub fn code_in(method: &Method) -> Code
     }
 }
 
-// The method of a signature and code.
+// The method of a signature and code. A `From` would take a pair made for it alone.
 pub fn method_with(entry: &Entry, code: &Code) -> Method
     ensures { method_of result ≡ method_with (entry_of entry.now) (code_of code.now) }
 {
