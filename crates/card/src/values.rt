@@ -17,7 +17,7 @@ use semantics::array_vec::ArrayVec;
 use semantics::call::Offered;
 use semantics::refusal::Refusal;
 use semantics::value::Value;
-use verifier::rules::{all_present, present};
+use verifier::rules::operands_present;
 
 // The receiver, name and arguments of a start.
 #[derive(Clone, Copy)]
@@ -59,7 +59,6 @@ impl Opening {
     pub fn present<T: ClassTable>(&self, table: &T) -> Result<(), Refusal>
         ensures { result ≡ classes_present (T.listed table.now) 0 (map kind_of (self.now.receiver ∷ items_of self.now.arguments)) }
     {
-        present(table, 0, self.receiver.class)?;
-        all_present(table, 1, self.arguments.as_slice())
+        operands_present(table, &self.receiver, &self.arguments)
     }
 }

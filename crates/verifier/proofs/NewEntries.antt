@@ -25,12 +25,12 @@ present_append ps k (x ∷ xs) ys =
     ∙ sym (so_so (must (present ps x) (ClassAbsent k)) (λ _. classes_present ps (k + 1) xs) (λ _. classes_present ps (k + 1 + length xs) ys))
     ∙ ap (λ r. so (must (present ps x) (ClassAbsent k)) (λ _. r)) (present_append ps (k + 1) xs ys)
 
--- the class, the arguments, the result
-pub signature_by : (ps : List ℕ) (e : EntryDef) (n : ℕ) (t u v : Formed) → t ≡ must (present ps e.class) (ClassAbsent 0) → u ≡ classes_present ps 1 e.arguments → n ≡ length e.arguments → v ≡ must (present ps e.result) (ClassAbsent (1 + n)) → so t (λ _. so u (λ _. v)) ≡ classes_present ps 0 (entry_classes e)
-signature_by ps e n t u v a b l c =
-    let last : v ≡ classes_present ps (1 + length e.arguments) (e.result ∷ []) = c ∙ ap (λ k. must (present ps e.result) (ClassAbsent (1 + k))) l ∙ sym (so_done _) in
-    (λ i. so (a i) (λ _. so (b i) (λ _. last i)))
-    ∙ ap (λ r. so (must (present ps e.class) (ClassAbsent 0)) (λ _. r)) (present_append ps 1 e.arguments (e.result ∷ []))
+-- the class and the arguments, then the result
+pub signature_by : (ps : List ℕ) (e : EntryDef) (n : ℕ) (t v : Formed) → t ≡ classes_present ps 0 (e.class ∷ e.arguments) → n ≡ length e.arguments → v ≡ must (present ps e.result) (ClassAbsent (1 + n)) → so t (λ _. v) ≡ classes_present ps 0 (entry_classes e)
+signature_by ps e n t v a l c =
+    let k : 1 + n ≡ 0 + length (e.class ∷ e.arguments) = omega arith in
+    let last : v ≡ classes_present ps (0 + length (e.class ∷ e.arguments)) (e.result ∷ []) = c ∙ ap (λ k. must (present ps e.result) (ClassAbsent k)) k ∙ sym (so_done _) in
+    (λ i. so (a i) (λ _. last i)) ∙ present_append ps 0 (e.class ∷ e.arguments) (e.result ∷ [])
 
 -- the signature, the labels' rows, the other rows
 pub rules_by : (ps : List ℕ) (es : List EntryDef) (e : EntryDef) (ds : List ℕ) (t u v : Formed) → t ≡ classes_present ps 0 (entry_classes e) → u ≡ classes_present ps (2 + length e.arguments) ds → v ≡ so (must (not (taken e es)) NameTaken) (λ _. agrees ps e 0 es) → so t (λ _. so u (λ _. v)) ≡ entry_rules ps es e (entry_classes e ++ ds)

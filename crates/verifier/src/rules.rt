@@ -1,5 +1,5 @@
 // The rules for a new method row.
-ghost use Rattle.std.specs.Prelude.{◌≡◌, ◌+◌, ◌^◌, ◌<◌, not, ◌&&◌, ◌++◌, map, length};
+ghost use Rattle.std.specs.Prelude.{◌≡◌, ◌+◌, ◌^◌, ◌<◌, not, ◌&&◌, ◌∷◌, ◌++◌, map, length};
 ghost use Rattle.semantics.specs.declared.refusal.Refusal.TheVariants.{ClassAbsent, NameTaken};
 ghost use Rattle.semantics.specs.Entries.{entry_of, entry_in};
 ghost use Rattle.semantics.specs.Form.{must};
@@ -12,6 +12,7 @@ ghost use Rattle.semantics.specs.Tree.{present};
 use crate::env::Env;
 use classes::rows::Cell;
 use classes::table::ClassTable;
+use semantics::array_vec::ArrayVec;
 use semantics::demand::demand;
 use semantics::entry::Entry;
 use semantics::method::Method;
@@ -28,11 +29,7 @@ pub fn present<T: ClassTable>(table: &T, place: usize, class: u8) -> Result<(), 
 }
 
 // The class of each cell, of which the first has the place `first`.
-pub fn all_present<T: ClassTable, C: Cell>(
-    table: &T,
-    first: usize,
-    cells: &[C],
-) -> Result<(), Refusal>
+fn all_present<T: ClassTable, C: Cell>(table: &T, first: usize, cells: &[C]) -> Result<(), Refusal>
     // The place of an absent class is told, so it has to be a number.
     requires { first + length cells.now < 2 ^ 64 }
     ensures { result ≡ classes_present (T.listed table.now) first (map C.Cell.kind cells.now) }
@@ -43,12 +40,23 @@ pub fn all_present<T: ClassTable, C: Cell>(
     Ok(())
 }
 
+// The class of a receiver, which has the place 0, and of each argument, in the places behind it.
+pub fn operands_present<T: ClassTable, C: Cell + Copy>(
+    table: &T,
+    receiver: &C,
+    arguments: &ArrayVec<C, 7>,
+) -> Result<(), Refusal>
+    ensures { result ≡ classes_present (T.listed table.now) 0 (C.Cell.kind receiver.now ∷ map C.Cell.kind (items_of arguments.now)) }
+{
+    present(table, 0, receiver.class())?;
+    all_present(table, 1, arguments.as_slice())
+}
+
 // The classes that a signature names.
 fn signature_present<T: ClassTable>(table: &T, entry: &Entry) -> Result<(), Refusal>
     ensures { result ≡ classes_present (T.listed table.now) 0 (entry_classes (entry_of entry.now)) }
 {
-    present(table, 0, entry.class)?;
-    all_present(table, 1, entry.arguments.as_slice())?;
+    operands_present(table, &entry.class, &entry.arguments)?;
     present(table, 1 + entry.arguments.len(), entry.result)
 }
 
