@@ -9,6 +9,7 @@ use semantics::array_vec::ArrayVec;
 use semantics::entry::Entry;
 use semantics::value::{BOOL, INT};
 
+#[tactic(auto, unfolding(semantics::specs::Tree::depth, semantics::specs::Tree::line, semantics::specs::Tree::line_in))]
 pub fn trial_classes<T: ClassTable>() -> T
     ensures { T.listed result ≡ trial_classes }
 {

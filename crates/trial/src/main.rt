@@ -17,6 +17,7 @@ fn main(rt: HostRuntime) -> io::Result<()> {
     rt.stdin().take(MAX_TEXT as u64).read_to_end(&mut text)?;
     let table: Climbing = card::trial_classes();
     let entries = card::trial_entries();
+    // An array and the length written into it, since `fill` writes into memory that it is lent, as it does for C.
     let mut buffer = [0u8; MAX_TEXT];
     let env = Env {
         table: &table,
