@@ -14,7 +14,7 @@ pub struct Answer(pub Response);
 #[derive(Clone, Copy)]
 struct Ended(Ending);
 
-// Not a `Display`: `Layer` is another crate's, and a type round it would say no more.
+// Not a `Display`: the word belongs to this program's answers, and a type round `Layer` would say no more.
 fn layer_word(layer: Layer) -> &'static str
     ensures { result.now ≡ layer_word layer }
 {

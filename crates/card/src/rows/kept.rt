@@ -86,7 +86,7 @@ impl Rows {
     }
 
     // What methods are checked in, over a table of classes.
-    pub fn env<'a, T>(&'a self, table: &'a T) -> Env<'a, T>
+    pub(crate) fn env<'a, T>(&'a self, table: &'a T) -> Env<'a, T>
         ensures table { result.table.now ≡ table.now }
         ensures entries { result.entries.now ≡ items_of self.now.entries }
     {
@@ -97,7 +97,7 @@ impl Rows {
     }
 
     // What methods are run on, over a table of classes.
-    pub fn store<'a, T>(&'a self, table: &'a T) -> Store<'a, T>
+    pub(crate) fn store<'a, T>(&'a self, table: &'a T) -> Store<'a, T>
         ensures table { result.env.table.now ≡ table.now }
         ensures entries { result.env.entries.now ≡ items_of self.now.entries }
         ensures bodies { result.bodies.now ≡ items_of self.now.bodies }
