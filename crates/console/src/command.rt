@@ -25,7 +25,7 @@ pub enum Text {
     Bytes(Vec<u8>),
 }
 
-// A call whose numbers all stand in the line.
+// A call whose numbers all stand in the line. Not a `Call`, which borrows its lists: here they are owned.
 #[derive(Drop)]
 pub enum Request {
     Class {
@@ -60,7 +60,7 @@ pub enum Command {
 }
 
 impl Request {
-    // The call; it asks for no buffer.
+    // The call; it asks for no buffer. A method, as `as_str` is: what it gives borrows from the request.
     pub fn call(&self) -> Call<'_>
         ensures { (room : ℕ) → call_of room result ≡ request_of self.now }
     {

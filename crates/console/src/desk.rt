@@ -16,6 +16,7 @@ use std::io;
 
 const MAX_ROOM: usize = 65535;
 
+// The buffer is fixed, and each call is lent as much of its front as the command says.
 #[derive(Drop)]
 pub struct Desk {
     cards: Cards,

@@ -58,7 +58,7 @@ impl<T: ClassTable> Card<T> {
         number
     }
 
-    // Whether there is room for one row more, with `more` points.
+    // Whether there is room for one row more, with `more` points. That there is stays a clause: it holds of a card from this test to the push, and of no card always.
     fn room(&self, more: usize) -> Result<(), Refusal>
         ensures answer { result ≡ room_for (length (card_of T.listed self.now).store.entries) (points_of (card_of T.listed self.now).store.bodies) more }
         ensures there { OnOk result (length (items_of self.now.rows.entries) < 64) }
