@@ -13,6 +13,7 @@ const TEMPORARY: u8 = b't';
 
 const CONSTANT: u8 = b'#';
 
+// Two arms stand twice, as the enums have them: one enum would let a constant be a destination, and one in the other would nest each match.
 impl Text for Operand {
     ghost text = { operand_text };
 

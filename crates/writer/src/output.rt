@@ -39,12 +39,14 @@ impl Output<'_> {
     pub(crate) fn byte(&mut self, byte: u8)
         ensures { self.new ≡ put (byte ∷ []) self.old }
     {
+        // Not a `get_mut`: after one a proof knows the length of the buffer, and none of its bytes.
         if self.len < self.buffer.len() {
             self.buffer[self.len] = byte;
         }
         self.len = self.len.saturating_add(1);
     }
 
+    // Byte by byte: a `copy_from_slice` would first have to cut the bytes where the buffer ends.
     pub(crate) fn bytes(&mut self, bytes: &[u8])
         ensures { self.new ≡ put bytes.now self.old }
     {
@@ -87,6 +89,7 @@ impl Output<'_> {
     }
 }
 
+// Not one impl for each `Integer`, here and below: it would conflict with the impls for other types.
 impl Text for u8 {
     ghost text = { decimal };
 
