@@ -67,3 +67,9 @@ taken (v ∷ vs) = Ok v
 abbrev pub ended : List Piece → Said (Unit {0})
 ended [] = Ok tt
 ended (v ∷ vs) = Err Malformed
+
+-- what the only part says
+abbrev pub only : {X : Type 0} → (Piece → Said X) → List Piece → Said X
+only says [] = Err Malformed
+only says (v ∷ []) = says v
+only says (v ∷ w ∷ vs) = Err Malformed

@@ -42,6 +42,7 @@ trait Name: Copy {
         ensures { result ≡ present (scope_from scope.now) (named self) };
 }
 
+// Two arms stand twice, as the enums have them: one enum would let a constant be a destination, and one in the other would nest each match.
 impl Name for Operand {
     ghost named = { named_by };
 
@@ -82,7 +83,7 @@ impl Scope {
         demand(name.is_in(self), Refusal::Absent { point, operand })
     }
 
-    // The same of the operands from `first` on.
+    // The same of the operands from `first` on. The place of an absent one is told, so it has to be a number.
     fn has_all<T: Name>(&self, point: usize, first: usize, names: &[T]) -> Result<(), Refusal>
         requires { first + length names.now < 2 ^ 64 }
         ensures { result ≡ all_present (scope_from self.now) point first (map T.named names.now) }

@@ -26,6 +26,7 @@ impl Item for u8 {
     }
 }
 
+// Two arms stand twice, as the enums have them: one enum would let a constant be a destination, and one in the other would nest each match.
 impl Item for Operand {
     ghost says = { operand_at };
 

@@ -31,7 +31,7 @@ fn is_numeral(bytes: &[u8]) -> bool
 
 // The casts in this file are exact by proved bounds: `try_from` would add a refusal that never comes.
 
-// The number that the digits write, if it is at most `max`.
+// The number that the digits write, if it is at most `max`. Not `parse`, here and in `negative`: it wants a `str`, and `from_utf8` would add a refusal that never comes.
 fn up_to_max(digits: &[u8], max: u32) -> Option<u32>
     requires { all_ascii_digits digits.now ≡ true }
     ensures { result ≡ up_to_max max (value_of digits.now) }

@@ -1,8 +1,8 @@
 // Operations: a letter and its operands, parted by blanks.
 ghost use Rattle.std.specs.Prelude.{◌≡◌, length};
 ghost use Rattle.semantics.specs.Methods.{op_of};
-ghost use Rattle.semantics.specs.Values.{mapped, return_of, jump_of, jump_if_of, jump_list_of, invoke_of, operation_at};
-ghost use Rattle.text.specs.Parts.{piece_of, parts_left};
+ghost use Rattle.semantics.specs.Values.{mapped, jump_if_of, jump_list_of, invoke_of, operation_at};
+ghost use Rattle.text.specs.Parts.{piece_of, parts_left, only};
 
 use crate::item::Item;
 use crate::label::MAX_ARGUMENTS;
@@ -14,20 +14,13 @@ use semantics::refusal::Fault;
 
 const MAX_LABELS: usize = 8;
 
-fn read_return(mut parts: Parts<'_>) -> Result<Operation, Fault>
-    ensures { mapped op_of result ≡ return_of (parts_left parts.entry) }
+// What the only part says.
+fn only<T: Item>(mut parts: Parts<'_>) -> Result<T, Fault>
+    ensures { result ≡ only T.says (parts_left parts.entry) }
 {
-    let value = Operand::read(parts.next_part()?);
+    let item = T::read(parts.next_part()?);
     parts.end()?;
-    Ok(Operation::Return(value?))
-}
-
-fn read_jump(mut parts: Parts<'_>) -> Result<Operation, Fault>
-    ensures { mapped op_of result ≡ jump_of (parts_left parts.entry) }
-{
-    let label = u8::read(parts.next_part()?);
-    parts.end()?;
-    Ok(Operation::Jump(label?))
+    item
 }
 
 fn read_jump_if(mut parts: Parts<'_>) -> Result<Operation, Fault>
@@ -79,8 +72,8 @@ pub fn read_operation(value: Part<'_>) -> Result<Operation, Fault>
     let mut parts = Parts::new(value, b' ');
     match parts.next_part()?.bytes {
         [letter] => match *letter {
-            b'R' => read_return(parts),
-            b'J' => read_jump(parts),
+            b'R' => Ok(Operation::Return(only(parts)?)),
+            b'J' => Ok(Operation::Jump(only(parts)?)),
             b'F' => read_jump_if(parts),
             b'L' => read_jump_list(parts),
             b'V' => read_invoke(parts),

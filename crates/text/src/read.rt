@@ -85,15 +85,21 @@ pub fn read(text: &[u8]) -> Result<Method, Refusal>
     ensures only { IfOk result (λ m. (text.now ≡ method_text (method_of m)) × InRange (method_of m)) }
 {
     let mut reader = Reader::new(text);
-    let head = read_head(&mut reader)?;
-    let labels = read_labels(&mut reader, head.temporaries)?;
+    let Head {
+        class,
+        name,
+        arguments,
+        result,
+        temporaries,
+    } = read_head(&mut reader)?;
+    let labels = read_labels(&mut reader, temporaries)?;
     let code = read_code(&mut reader)?;
     Ok(Method {
-        class: head.class,
-        name: head.name,
-        arguments: head.arguments,
-        result: head.result,
-        temporaries: head.temporaries.count,
+        class,
+        name,
+        arguments,
+        result,
+        temporaries: temporaries.count,
         labels,
         code,
     })
