@@ -1,4 +1,5 @@
 // Methods filled on the trial card, over both class tables.
+use crate::case::{COUNTDOWN, Case, MAX_TEXT};
 use classes::climbing::Climbing;
 use classes::masks::Masks;
 use classes::table::ClassTable;
@@ -8,13 +9,6 @@ use semantics::entry::Entry;
 use semantics::refusal::Refusal;
 use std::process::Abort;
 use verifier::env::Env;
-
-const MAX_TEXT: usize = 8192;
-
-struct Case {
-    text: &'static [u8],
-    refusal: Refusal,
-}
 
 const REFUSED: [Case; 11] = [
     Case {
@@ -72,9 +66,6 @@ const REFUSED: [Case; 11] = [
 // The rows of this table are not those of the filled one.
 const LOOSE: &[u8] =
     b"class=3\nname=200\nargs=2\nresult=2\ntemps=2\nlabel=1:0,63\nlabel=5:63,0\nop=V t0 l1 0\nop=V t1 t0 5 #0\nop=F t1 1\nop=V t0 t0 2 #4\nop=J 0\nop=R t0\n";
-
-const COUNTDOWN: &[u8] =
-    b"class=3\nname=200\nargs=2\nresult=2\ntemps=2\nlabel=1:2,0\nlabel=5:2,1\nop=V t0 l1 0\nop=V t1 t0 5 #0\nop=F t1 1\nop=V t0 t0 2 #4\nop=J 0\nop=R t0\n";
 
 // Each sweep comes to one label more, twice over.
 const MANY_SWEEPS: &[u8] =

@@ -1,16 +1,10 @@
 // Tables of texts, and what becomes of each.
+use crate::case::{COUNTDOWN, Case, MAX_TEXT};
 use semantics::refusal::Refusal;
 use std::test::Fail;
 use text::form::form;
 use text::read::read;
 use writer::write;
-
-const MAX_TEXT: usize = 8192;
-
-struct Case {
-    text: &'static [u8],
-    refusal: Refusal,
-}
 
 const UNREADABLE: [Case; 33] = [
     Case {
@@ -193,9 +187,6 @@ const MALFORMED: [Case; 8] = [
         refusal: Refusal::OpenEnd { point: 0 },
     },
 ];
-
-const COUNTDOWN: &[u8] =
-    b"class=3\nname=200\nargs=2\nresult=2\ntemps=2\nlabel=1:2,0\nlabel=5:2,1\nop=V t0 l1 0\nop=V t1 t0 5 #0\nop=F t1 1\nop=V t0 t0 2 #4\nop=J 0\nop=R t0\n";
 
 const EXTREMES: &[u8] =
     b"class=0\nname=0\nargs=\nresult=0\ntemps=0\nlabel=1:\nop=L #2147483647 0 0 0 0 0 0 0 0\nop=R #-2147483648\n";

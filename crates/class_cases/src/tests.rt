@@ -13,23 +13,13 @@ const NUMBERS: u8 = 80;
 fn agree_on<T: ClassTable, U: ClassTable>(one: &T, other: &U, a: u8) -> bool
     ensures { T.ClassTable.listed one.now ≡ U.ClassTable.listed other.now → result ≡ true }
 {
-    for b in 0..NUMBERS {
-        if one.fits(a, b) != other.fits(a, b) || one.join(a, b) != other.join(a, b) {
-            return false;
-        }
-    }
-    true
+    (0..NUMBERS).all(|b| one.fits(a, b) == other.fits(a, b) && one.join(a, b) == other.join(a, b))
 }
 
 fn agree<T: ClassTable, U: ClassTable>(one: &T, other: &U) -> bool
     ensures { T.ClassTable.listed one.now ≡ U.ClassTable.listed other.now → result ≡ true }
 {
-    for a in 0..NUMBERS {
-        if !agree_on(one, other, a) {
-            return false;
-        }
-    }
-    one.count() == other.count()
+    (0..NUMBERS).all(|a| agree_on(one, other, a)) && one.count() == other.count()
 }
 
 // Parents that are present, absent, too deep, and asked for when the table is full.

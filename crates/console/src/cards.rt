@@ -23,6 +23,7 @@ pub enum Cards {
     Masks(Card<Masks>),
 }
 
+// Both arms stand in each method: the gate refuses a function that hands out a `dyn` card, and a generic `perform` allows none.
 impl Cards {
     // A blank card of that kind in hand, over that table.
     pub fn blank(kind: Kind, table: Table) -> Cards

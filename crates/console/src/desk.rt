@@ -16,7 +16,7 @@ use std::io;
 
 const MAX_ROOM: usize = 65535;
 
-// The buffer is fixed, and each call is lent as much of its front as the command says.
+// The buffer is fixed: a call writes into memory that it is lent, as much of the front as the command says, and answers a length.
 #[derive(Drop)]
 pub struct Desk {
     cards: Cards,

@@ -23,6 +23,7 @@ struct Player<'a> {
     desk: Desk,
 }
 
+// What is to come is a clause of each method: it compares before and after, which no fact in a type can.
 impl<'a> Player<'a> {
     // The text of a call.
     fn text<'b>(&mut self, text: &'b Text) -> Result<&'b [u8], Fault>
