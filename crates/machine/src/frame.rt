@@ -34,6 +34,7 @@ pub(crate) struct Call {
 
 impl Call {
     // The classes of the arguments.
+    // Three loops that fill a list, here and below: a `map` by a closure would ask that it may be called, and say its result by a relation only.
     pub(crate) fn kinds(&self) -> ArrayVec<u8, 7>
         ensures { items_of result ≡ map kind_of (items_of self.now.arguments) }
     {
