@@ -4,10 +4,15 @@ ghost use Rattle.semantics.specs.declared.value.Cause.TheVariants.{CellNumber};
 ghost use Rattle.semantics.specs.Hosts.{is_cell, cell_place, cell_reply};
 
 use crate::host::Host;
-use crate::numbers::{an_int, argument, shape};
+use crate::numbers::{an_int, shape};
 use semantics::value::{Answer, Cause, INT, Question};
 
 pub const CELLS: usize = 64;
+
+// The names that it answers. Constants, and no enum: each is the card's number, and is met once.
+const GET: u8 = 128;
+
+const PUT: u8 = 129;
 
 #[derive(Clone, Copy)]
 pub struct Cells {
@@ -42,15 +47,15 @@ impl Host for Cells {
 
     fn ask(&mut self, question: &Question) -> Answer {
         let count = match question.name {
-            128 => 0,
-            129 => 1,
+            GET => 0,
+            PUT => 1,
             _ => return Err(Cause::NameUnknown),
         };
         shape(question, count, INT)?;
         let cell = cell_of(question.receiver.number)?;
         let former = self.cells[cell];
-        if count == 1 {
-            self.cells[cell] = argument(question);
+        if let Some(value) = question.arguments.as_slice().first() {
+            self.cells[cell] = value.number;
         }
         an_int(former)
     }

@@ -7,6 +7,21 @@ use crate::host::Host;
 use semantics::value::{Answer, Cause, Question, Value};
 pub use semantics::value::{BOOL, INT};
 
+// The names that it answers. Constants, and no enum: each is the card's number, and is met once.
+const LIKE_IT: u8 = 0;
+
+const ADD: u8 = 1;
+
+const SUBTRACT: u8 = 2;
+
+const MULTIPLY: u8 = 3;
+
+const DIVIDE: u8 = 4;
+
+const LT_OR_EQ: u8 = 5;
+
+const EQUAL: u8 = 6;
+
 #[derive(Clone, Copy)]
 pub struct Numbers;
 
@@ -84,14 +99,14 @@ fn shaped(question: &Question, count: usize, class: u8, answer: Answer) -> Answe
 }
 
 // The number of the only argument.
-pub(crate) fn argument(question: &Question) -> i32
+fn argument(question: &Question) -> i32
     ensures { result ≡ argument_of (question_of question.now) }
 {
-    let none = Value {
-        class: 0,
-        number: 0,
-    };
-    question.arguments.get_or(0, none).number
+    question
+        .arguments
+        .as_slice()
+        .first()
+        .map_or(0, |value| value.number)
 }
 
 fn answer(question: &Question) -> Answer
@@ -100,13 +115,13 @@ fn answer(question: &Question) -> Answer
     let x = question.receiver.number;
     let y = argument(question);
     match question.name {
-        0 => shaped(question, 0, INT, an_int(x)),
-        1 => shaped(question, 1, INT, sum(x, y)),
-        2 => shaped(question, 1, INT, difference(x, y)),
-        3 => shaped(question, 1, INT, product(x, y)),
-        4 => shaped(question, 1, INT, quotient(x, y)),
-        5 => shaped(question, 1, BOOL, a_bool(x <= y)),
-        6 => shaped(question, 1, BOOL, equal(x, y)),
+        LIKE_IT => shaped(question, 0, INT, an_int(x)),
+        ADD => shaped(question, 1, INT, sum(x, y)),
+        SUBTRACT => shaped(question, 1, INT, difference(x, y)),
+        MULTIPLY => shaped(question, 1, INT, product(x, y)),
+        DIVIDE => shaped(question, 1, INT, quotient(x, y)),
+        LT_OR_EQ => shaped(question, 1, BOOL, a_bool(x <= y)),
+        EQUAL => shaped(question, 1, BOOL, equal(x, y)),
         _ => Err(Cause::NameUnknown),
     }
 }

@@ -1,7 +1,8 @@
--- Items of lists by their place: of rows, of labels, and of what is made item by item.
-use Rattle.std.proofs.Common.{◌≡◌, ℕ, ◌+◌, ◌<◌, ◌≤◌, List, [], ◌∷◌, ◌++◌, length, get_or, take, Some, None, Ok, Option, sym, refl, ap, ◌∙◌, append_assoc, arith}
-use Rattle.std.proofs.lemmas.List.{length-append, length-take-le, take_more}
-use Rattle.std.proofs.lemmas.Bool.{lt-ltb, cond-true}
+-- Items of lists by their place: of labels, and of what is gathered item by item.
+use Rattle.std.proofs.Common.{◌≡◌, ℕ, Bool, true, false, List, [], ◌∷◌, ◌++◌, length, take, Some, None, Ok, Option, sym, refl, ap, ◌∙◌, arith}
+use Rattle.std.proofs.lemmas.List.{length-append, length-take-le, take_all, take-append-le}
+use lib.Dec.{ltb}
+use Rattle.std.proofs.lemmas.Bool.{ltb-true, ltb-false, lt-ltb, le-ltb, cond-true, cond-false}
 use Rattle.semantics.specs.declared.misfit.Misfit.TheVariants.{Row}
 use Rattle.semantics.specs.declared.value.Value.{Value}
 use Rattle.semantics.specs.Items.{pushed}
@@ -20,8 +21,16 @@ pub unlabelled_by : (ps : List ℕ) (vs : List Value) (o : Option LabelDef) → 
 unlabelled_by ps vs None e = refl
 unlabelled_by ps vs (Some l) e = cc
 
--- one item more behind the first ones
-pub added : {X : Type 0} (n i : ℕ) (us xs : List X) (d : X) (ys zs : List X) (y : X) → ys ≡ us ++ take i xs → zs ≡ pushed n ys y → y ≡ get_or xs i d → i < length xs → length us + length xs ≤ n → zs ≡ us ++ take (i + 1) xs
-added n i us xs d ys zs y e p at h k =
-    let l : length ys ≡ length us + i = ap length e ∙ length-append us (take i xs) ∙ ap (λ m. length us + m) (length-take-le i xs (omega arith)) in
-    p ∙ cond-true _ _ _ (lt-ltb (length ys) n (omega arith)) ∙ (λ j. e j ++ at j ∷ []) ∙ append_assoc us (take i xs) (get_or xs i d ∷ []) ∙ ap (λ l. us ++ l) (sym (take_more xs i d h))
+-- the first n items of one more
+pub taken_more : {X : Type 0} (n : ℕ) (xs : List X) (x : X) → take n (xs ++ x ∷ []) ≡ pushed n (take n xs) x
+taken_more n xs x = go (ltb (length xs) n) refl
+  where
+    go : (b : Bool) → ltb (length xs) n ≡ b → take n (xs ++ x ∷ []) ≡ pushed n (take n xs) x
+    go true e =
+        let h = ltb-true (length xs) n e in
+        take_all n (xs ++ x ∷ []) (omega (arith, length-append xs (x ∷ []), h))
+        ∙ sym (ap (λ l. pushed n l x) (take_all n xs (omega (arith, h))) ∙ cond-true _ _ _ (lt-ltb (length xs) n h))
+    go false e =
+        let h = ltb-false (length xs) n e in
+        take-append-le n xs (x ∷ []) h
+        ∙ sym (cond-false _ _ _ (le-ltb (length (take n xs)) n (omega (arith, length-take-le n xs h))))

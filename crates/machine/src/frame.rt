@@ -1,5 +1,6 @@
 // A frame: what it holds, and how it changes.
-ghost use Rattle.std.specs.Prelude.{◌≡◌, ◌<◌, ◌∷◌, map};
+ghost use Rattle.std.specs.Prelude.{◌≡◌, ◌<◌, ◌∷◌, List, map, take};
+ghost use Rattle.std.specs.Iterator.{Drains, IsFinite};
 ghost use Rattle.semantics.specs.Items.{items_of};
 ghost use Rattle.semantics.specs.Runs.{opened, moved_to, kind_of, operand_value, put_in};
 ghost use Rattle.semantics.specs.Stores.{code_of};
@@ -9,12 +10,26 @@ use semantics::array_vec::ArrayVec;
 use semantics::body::Code;
 use semantics::operation::{Destination, Operand};
 use semantics::value::{INT, Value};
+use std::iter::once;
 
 // What a temporary holds at first.
 const ZERO: Value = Value {
     class: 0,
     number: 0,
 };
+
+// The items, at most N. The filler stands where no item does.
+#[tactic(auto, using(crate::proofs::Places::taken_more))]
+fn gathered<T: Copy, I: Iterator<Item = T>, const N: usize>(filler: T, items: I) -> ArrayVec<T, N>
+    requires can_next { I.can_next items × IsFinite (I.remaining items) }
+    ensures { (xs : List T) × Drains I.next_gives items xs × (items_of result ≡ take N xs) }
+{
+    let mut list = ArrayVec::new(filler);
+    for item in items {
+        let _ = list.push(item);
+    }
+    list
+}
 
 // A method row, a point, locals and temporaries.
 #[derive(Clone, Copy)]
@@ -37,22 +52,15 @@ impl Call {
     pub(crate) fn kinds(&self) -> ArrayVec<u8, 7>
         ensures { items_of result ≡ map kind_of (items_of self.now.arguments) }
     {
-        let mut classes = ArrayVec::new(0);
-        for value in self.arguments.as_slice() {
-            let _ = classes.push(value.class);
-        }
-        classes
+        gathered(0, self.arguments.as_slice().iter().map(|value| value.class))
     }
 
     // The locals that a method begins with.
     fn locals(&self) -> ArrayVec<Value, 8>
         ensures { items_of result ≡ self.now.receiver ∷ items_of self.now.arguments }
     {
-        let mut locals = ArrayVec::repeat(self.receiver, 1);
-        for argument in self.arguments.as_slice() {
-            let _ = locals.push(*argument);
-        }
-        locals
+        let arguments = self.arguments.as_slice().iter().copied();
+        gathered(ZERO, once(self.receiver).chain(arguments))
     }
 }
 
@@ -82,11 +90,11 @@ impl Frame {
     fn values(&self, operands: &ArrayVec<Operand, 7>) -> ArrayVec<Value, 7>
         ensures { items_of result ≡ map (operand_value (frame_of self.now)) (items_of operands.now) }
     {
-        let mut values = ArrayVec::new(ZERO);
-        for operand in operands.as_slice() {
-            let _ = values.push(self.value(*operand));
-        }
-        values
+        let values = operands
+            .as_slice()
+            .iter()
+            .map(|operand| self.value(*operand));
+        gathered(ZERO, values)
     }
 
     // The call that an invocation makes.

@@ -13,6 +13,7 @@ use semantics::entry::Entry;
 use semantics::operation::{Destination, Operation};
 use verifier::env::Env;
 
+// Two lists, as the rows of a card have them.
 #[derive(Drop)]
 pub struct Store<'a, T> {
     pub env: Env<'a, T>,

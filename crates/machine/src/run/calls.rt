@@ -21,7 +21,7 @@ use semantics::refusal::Refusal;
 use semantics::value::Value;
 use verifier::tests::taking;
 
-// A misfit of a start, as it is told.
+// A misfit of a start, as it is told. Not a `From`: one would hold for the check too, which tells other refusals.
 fn start_refusal(misfit: Misfit) -> Refusal
     ensures { result ≡ start_refusal misfit }
 {
@@ -59,6 +59,7 @@ impl Run {
     }
 
     // The first frame of the row that a name means on the receiver, in the place of any run before.
+    // Receiver, name and arguments come apart: the name is looked up, and the others go into the frame as one `Call`.
     pub fn begin<T: ClassTable>(
         &mut self,
         store: &Store<'_, T>,

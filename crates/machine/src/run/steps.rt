@@ -65,6 +65,7 @@ impl Frames {
     }
 
     // The called row: a native one puts its question, a coded one opens a frame.
+    // Store and host come apart, here and below: a struct would hold a `&mut H`, with a clause on that in each method.
     fn call<T: ClassTable, H: Host>(
         &mut self,
         store: &Store<'_, T>,
