@@ -1,2 +1,3 @@
+pub mod Points
 pub mod Ranges
 pub mod StartFacts

@@ -18,6 +18,7 @@ const MAX_CLASS: u32 = 63;
 const MAX_ARGUMENTS: usize = 7;
 
 // What a call is handed: a number, or numbers, of which only some are in range.
+// Not a `TryFrom`: a class has no type of its own, and `u8: TryFrom<u32>` is the library's, with another limit.
 pub trait Handed {
     type Small: Copy;
 

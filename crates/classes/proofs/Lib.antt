@@ -1,3 +1,4 @@
+pub mod Pairs
 pub mod Climbs
 pub mod Digit
 pub mod Masking

@@ -1,6 +1,6 @@
 -- Masks that are sums of their own bit and their parent's mask.
-use Rattle.std.proofs.Common.{◌≡◌, ℕ, zero, suc, ◌+◌, ◌-◌, ◌^◌, ◌<◌, ◌≤◌, List, [], ◌∷◌, ◌++◌, length, get_or, sym, refl, ap, ◌∙◌, inl, inr, one-mul, pow-suc, arith, pow_pos, pow_mono}
-use lib.Count.{ones, ones_in, ones_cat, leading_top}
+use Rattle.std.proofs.Common.{◌≡◌, ℕ, zero, suc, ◌+◌, ◌-◌, ◌*◌, ◌^◌, ◌<◌, ◌≤◌, Option, None, Some, IfNone, IfSome, unwrap_or, List, [], ◌∷◌, ◌++◌, length, get_or, sym, refl, ap, ◌∙◌, inl, inr, one-mul, pow-suc, arith, pow_pos, pow_mono}
+use lib.Count.{count_leading_zeros, ones, ones_in, ones_cat, leading_top}
 use Rattle.std.proofs.lemmas.List.{length_push, get_or_push, get_or_append_left}
 use Rattle.std.proofs.lemmas.Bool.{cases_order, cases_lt}
 use Rattle.semantics.specs.Tree.{max_classes, parent, Tree, depth, fits}
@@ -28,6 +28,15 @@ highest_is m j h l u =
     let a : j ≤ w.0 = pow_le_place j w.0 (omega (arith, w.3)) in
     let b : w.0 ≤ j = pow_le_place w.0 j (omega (arith, w.2)) in
     omega (arith, w.1)
+
+highest_zero : highest 0 ≡ 0
+unfolding count_leading_zeros
+highest_zero = refl
+
+-- the highest bit is the logarithm, or 0 where there is none
+pub highest_told : (m : ℕ) (r : Option ℕ) → IfNone r (m ≡ 0) → IfSome r (λ k. 2 ^ k ≤ m) → IfSome r (λ k. m < 2 * 2 ^ k) → IfSome r (λ k. k < 64) → unwrap_or r 0 ≡ highest m
+highest_told m None z l u b = sym (ap highest z ∙ highest_zero)
+highest_told m (Some k) z l u b = sym (highest_is m k b l (omega arith))
 
 one_one : ones 1 ≡ 1
 unfolding ones ones_in

@@ -10,6 +10,7 @@ use semantics::refusal::{Capacity, Refusal};
 
 #[derive(Clone, Copy)]
 pub struct Climbing {
+    // Each parent is a class number, as callers hold classes by their numbers.
     parents: ArrayVec<u8, MAX_CLASSES>,
     ghost tree: { Shape (items_of parents) },
 }
@@ -21,7 +22,7 @@ impl Climbing {
         self.parents.get_or(class as usize, 0)
     }
 
-    // How many parents up class 0 is.
+    // How many parents up class 0 is. Not a `for`: the walk goes from parent to parent, and not over places.
     fn depth(&self, class: u8) -> u32
         requires { class < length (items_of self.now.parents) }
         ensures { result ≡ depth (items_of self.now.parents) class }

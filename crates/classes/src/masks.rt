@@ -18,13 +18,11 @@ pub struct Masks {
     ghost steps: { Steps (items_of masks) },
 }
 
-const TOP_BIT: u32 = u64::BITS - 1;
-
 // The place of the highest bit, or 0 where none is set.
 fn highest_bit(bits: u64) -> u8
     ensures { result ≡ highest bits }
 {
-    TOP_BIT.saturating_sub(bits.leading_zeros()) as u8
+    bits.checked_ilog2().unwrap_or(0) as u8
 }
 
 impl Masks {

@@ -41,13 +41,9 @@ pub fn row_fits<T: ClassTable, C: Cell, D: Cell>(table: &T, row: &[C], other: &[
     ensures value { result ≡ row_fits (T.listed table.now) C.Cell.kind D.Cell.kind row.now other.now }
     ensures cells { Decides result (FitsEach (T.listed table.now) C.Cell.kind D.Cell.kind row.now other.now) }
 {
-    if row.len() != other.len() {
-        return false;
-    }
-    for (cell, other) in row.iter().zip(other) {
-        if !cell_fits(table, cell, other) {
-            return false;
-        }
-    }
-    true
+    row.len() == other.len()
+        && row
+            .iter()
+            .zip(other)
+            .all(|(cell, other)| cell_fits(table, cell, other))
 }

@@ -30,6 +30,7 @@ fn labels_with(
 ) -> ArrayVec<Label, 16>
     ensures { map label_of (items_of result) ≡ with_rows (map label_of (items_of labels.now)) (table_of rows.now) }
 {
+    // Not a `zip`: it would end with the rows, and a label behind them gets an empty one.
     let mut filled = *labels;
     for (i, label) in labels.as_slice().iter().enumerate() {
         let row = rows.get_or(i, None).unwrap_or(ArrayVec::new(0));
@@ -48,6 +49,7 @@ fn labels_with(
 pub fn method_with(method: &Method, rows: &ArrayVec<Option<ArrayVec<u8, 8>>, 16>) -> Method
     ensures { method_of result ≡ with_table (method_of method.now) (table_of rows.now) }
 {
+    // `Method { labels, ..*method }` is refused over a ghost field.
     let mut filled = *method;
     filled.labels = labels_with(&method.labels, rows);
     filled

@@ -19,6 +19,7 @@ use verifier::env::Env;
 use verifier::labels::named_labels;
 
 // Where a sweep stands: the labels' rows so far, whether one was altered, and the lowest point passed over.
+// The rows lie beside the labels, and not in them: a sweep changes its rows, and the method keeps its labels.
 #[derive(Clone, Copy)]
 pub struct Sweep {
     pub table: ArrayVec<Option<ArrayVec<u8, 8>>, 16>,

@@ -41,7 +41,7 @@ pub fn row_at(labels: &[Label], point: usize) -> Option<ArrayVec<u8, 8>>
     label.map(|label| label.row)
 }
 
-// The row at a point: one that comes there has to fit the label's, which is then current.
+// The row at a point: one that comes there has to fit the label's, which is then current. The machine's `fits_label` tests values, and hands on no row: one function for both would be no plainer.
 fn arrived<T: ClassTable>(
     table: &T,
     labels: &[Label],

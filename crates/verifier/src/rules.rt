@@ -64,6 +64,7 @@ fn signature_present<T: ClassTable>(table: &T, entry: &Entry) -> Result<(), Refu
 fn rows_present<T: ClassTable>(table: &T, method: &Method) -> Result<(), Refusal>
     ensures { result ≡ classes_present (T.listed table.now) (2 + length (items_of method.now.arguments)) (row_classes (method_of method.now).labels) }
 {
+    // Not a `try_fold`: its closure would have to ask, as `all_present` does, that the place be a number.
     let mut place = 2 + method.arguments.len();
     for label in method.labels.as_slice() {
         all_present(table, place, label.row.as_slice())?;

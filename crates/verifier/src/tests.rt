@@ -23,6 +23,7 @@ const NAME: usize = 2;
 
 const FIRST_ARGUMENT: usize = 3;
 
+// Class and arguments come apart, also in `may_hold`: the check has them in a `Method`, a run in an `Entry`.
 // The class that a local is declared with, in a method of a class with arguments of these classes: the receiver's, then those of the arguments.
 fn declared_class(class: u8, arguments: &ArrayVec<u8, 7>, local: u8) -> u8
     ensures { result ≡ slice_index (class ∷ items_of arguments.now) local }
@@ -98,6 +99,7 @@ impl Typing<'_> {
     fn classes_of(&self, operands: &ArrayVec<Operand, 7>) -> ArrayVec<u8, 7>
         ensures { items_of result ≡ map (class_in self.now) (items_of operands.now) }
     {
+        // `ArrayVec` has no `map`: it would have to ask that its closure may be called, and no public function asks anything.
         let mut classes = ArrayVec::new(0);
         for operand in operands.as_slice() {
             let _ = classes.push(self.class_of(*operand));

@@ -10,10 +10,7 @@ impl<T: ClassTable> Card<T> {
     pub fn fits(&self, a: u32, b: u32) -> bool
         ensures { result ≡ fits (card_of T.listed self.now).store.classes a b }
     {
-        let Ok(a) = u8::try_from(a) else {
-            return false;
-        };
-        let Ok(b) = u8::try_from(b) else {
+        let (Ok(a), Ok(b)) = (u8::try_from(a), u8::try_from(b)) else {
             return false;
         };
         self.table.fits(a, b)
@@ -22,10 +19,7 @@ impl<T: ClassTable> Card<T> {
     pub fn join(&self, a: u32, b: u32) -> u32
         ensures { result ≡ join (card_of T.listed self.now).store.classes a b }
     {
-        let Ok(a) = u8::try_from(a) else {
-            return 0;
-        };
-        let Ok(b) = u8::try_from(b) else {
+        let (Ok(a), Ok(b)) = (u8::try_from(a), u8::try_from(b)) else {
             return 0;
         };
         u32::from(self.table.join(a, b))
