@@ -35,6 +35,7 @@ impl<T: ClassTable> Store<'_, T> {
     pub(crate) fn entry_at(&self, row: usize) -> Entry
         ensures { entry_of result ≡ entry_at (store_of T.listed self.now) row }
     {
+        // The entry of no row; card's filler is the same, and a shared one would be a public function for two uses.
         let none = Entry {
             class: 0,
             name: 0,

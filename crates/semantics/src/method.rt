@@ -11,6 +11,7 @@ pub struct Label {
     pub row: ArrayVec<u8, 8>,
 }
 
+// Flat, as its text is, line by line: what a row keeps of it is taken apart by `entry_in` and `code_in`. The limit of temporaries stands in `Code` too, since a type for the count would be unwrapped at each use.
 #[derive(Clone, Copy)]
 pub struct Method {
     pub class: u8,

@@ -16,6 +16,7 @@ mod operations;
 mod output;
 
 // Writes the text of a method into the buffer and answers its length; where the buffer is too short it stays as it was.
+// The buffer is lent, since no call allocates.
 pub fn write(method: &Method, buffer: &mut [u8]) -> Result<usize, Refusal>
     ensures answer { result ≡ written (method_text (method_of method.now)) buffer.old }
     ensures text { buffer.new ≡ filled (method_text (method_of method.now)) buffer.old }
