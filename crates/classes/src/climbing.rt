@@ -22,7 +22,7 @@ impl Climbing {
         self.parents.get_or(class as usize, 0)
     }
 
-    // How many parents up class 0 is. Not a `for`: the walk goes from parent to parent, and not over places.
+    // How many parents up class 0 is. Not a `for`: the walk goes from parent to parent. A count of `successors` would say the same in a closure.
     fn depth(&self, class: u8) -> u32
         requires { class < length (items_of self.now.parents) }
         ensures { result ≡ depth (items_of self.now.parents) class }

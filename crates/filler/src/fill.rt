@@ -87,7 +87,7 @@ fn fill_text<T: ClassTable>(env: &Env<'_, T>, text: &[u8]) -> Result<(Method, us
 }
 
 // Writes the text of the filled method into the buffer, and answers its length and the number of sweeps.
-// That the length lies within the buffer is a clause here and in card: a type for it would be unwrapped by each caller.
+// That the length lies within the buffer is a clause here, in the writer and in card: a type for it would be unwrapped by each caller.
 pub fn fill<T: ClassTable>(
     env: &Env<'_, T>,
     text: &[u8],

@@ -19,7 +19,7 @@ pub enum Run {
 }
 
 // Eight frame records, of which the first `depth` are open and the last of those is on top.
-// Fixed memory is the project's rule. No `ArrayVec`: that gives its items by copy, and the top frame is changed in place.
+// Fixed memory is the project's rule. No `ArrayVec`: that lends its items to be read alone, and the top frame is changed in place.
 #[derive(Clone, Copy)]
 pub struct Frames {
     frames: [Frame; MAX_FRAMES],

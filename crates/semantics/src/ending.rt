@@ -29,7 +29,7 @@ pub struct End {
     pub point: usize,
 }
 
-// The number and operand that a break tells, as they go outside.
+// The number and operand that a break tells. Both are plain, since they go outside as they are.
 #[derive(Clone, Copy)]
 pub struct BreakTold {
     pub number: u8,

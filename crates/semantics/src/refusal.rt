@@ -65,7 +65,7 @@ pub enum Fault {
     OutOfRange { at: usize },
 }
 
-// What a refusal tells: its number, its layer and two places, 0 where a place is not used. Numbers, and no enum or option: this is what goes outside.
+// What a refusal tells: its number, its layer and two places, 0 where a place is not used. The number and the places are plain, since they go outside as they are.
 #[derive(Clone, Copy)]
 pub struct Told {
     pub number: u8,

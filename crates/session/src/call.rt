@@ -1,6 +1,7 @@
 // The calls of a list.
 use semantics::call::Offered;
 
+// The operands of a native and of a start stay apart, here and in card: they are the call's own, and a struct for them would be made for one call.
 #[derive(Clone, Copy)]
 pub enum Call<'a> {
     Class {

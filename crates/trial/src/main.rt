@@ -14,8 +14,8 @@ mod card;
 // A text is at most this long; what stands behind it in the input is not looked at.
 const MAX_TEXT: usize = 8192;
 
-// By hand into a fixed array, so that the program needs no heap: a `Vec` would come to rest on what is assumed of one.
 // Fills the buffer from the input, as far as that goes, and answers how many bytes came.
+// By hand into a fixed array, so that the program needs no heap: a `Vec` would come to rest on what is assumed of one.
 fn take_input(input: &mut impl Read, buffer: &mut [u8]) -> io::Result<usize>
     ensures { IfOk result (λ n. n ≤ length buffer.old) }
 {

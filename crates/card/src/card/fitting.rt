@@ -16,6 +16,7 @@ impl<T: ClassTable> Card<T> {
         self.table.fits(a, b)
     }
 
+    // The front is that of `fits`: a helper would hand back a pair that each would match again.
     pub fn join(&self, a: u32, b: u32) -> u32
         ensures { result ≡ join (card_of T.listed self.now).store.classes a b }
     {
