@@ -15,7 +15,7 @@ use hosts::host::Host;
 use semantics::call::{Kind, Response};
 use semantics::refusal::Refusal;
 use session::call::Call;
-use session::perform::perform;
+use session::perform::perform_all;
 
 #[derive(Drop)]
 pub enum Cards {
@@ -23,7 +23,7 @@ pub enum Cards {
     Masks(Card<Masks>),
 }
 
-// Both arms stand in each method: the gate refuses a function that hands out a `dyn` card, and a generic `perform` allows none.
+// Both arms stand in each method: the gate refuses a function that hands out a `dyn` card, and a generic `perform_all` allows none.
 impl Cards {
     // A blank card of that kind in hand, over that table.
     pub fn blank(kind: Kind, table: Table) -> Cards
@@ -45,10 +45,13 @@ impl Cards {
         ensures buffer { buffer.new ≡ buffer_after (hand_of self.old) (call_of (length buffer.old) call.entry) buffer.old }
         ensures promise { PromisedFrom H.reply (hand_of self.old) (H.condition host.old) (call_of (length buffer.old) call.entry ∷ []) }
     {
+        let calls = [call];
+        let mut responses = [Response::Started];
         match self {
-            Cards::Climbing(card) => perform(card, host, &call, buffer),
-            Cards::Masks(card) => perform(card, host, &call, buffer),
+            Cards::Climbing(card) => perform_all(card, host, &calls, buffer, &mut responses),
+            Cards::Masks(card) => perform_all(card, host, &calls, buffer, &mut responses),
         }
+        responses[0]
     }
 
     // The text of a row's method; answers its length.

@@ -1,7 +1,8 @@
 // Why a line is not carried out.
 ghost use Rattle.std.specs.Prelude.{◌≡◌, ◌≢◌};
 ghost use Rattle.hex.specs.declared.error.FromHexError.TheVariants.{OutOfMemory};
-ghost use Rattle.console.specs.declared.fault.Fault.TheVariants.{NotUnderstood};
+ghost use Rattle.console.specs.declared.fault.Fault.TheVariants.{NotUnderstood, Io};
+ghost use Rattle.console.specs.Faults.{NoMemory};
 
 use hex::FromHexError;
 use std::alloc::{AllocError, AllocFailed};
@@ -42,7 +43,7 @@ impl From<TryFromIntError> for Fault {
 }
 
 impl From<FromHexError> for Fault {
-    ghost from_gives = { λ e r. e ≢ OutOfMemory → r ≡ NotUnderstood };
+    ghost from_gives = { λ e r. (e ≡ OutOfMemory → NoMemory r) × (e ≢ OutOfMemory → r ≡ NotUnderstood) };
 
     fn from(error: FromHexError) -> Fault {
         match error {
@@ -53,18 +54,24 @@ impl From<FromHexError> for Fault {
 }
 
 impl From<AllocError> for Fault {
+    ghost from_gives = { λ _ r. NoMemory r };
+
     fn from(error: AllocError) -> Fault {
         Fault::Io(error.into())
     }
 }
 
 impl<T: Drop> From<AllocFailed<T>> for Fault {
+    ghost from_gives = { λ _ r. NoMemory r };
+
     fn from(_: AllocFailed<T>) -> Fault {
         Fault::Io(AllocError.into())
     }
 }
 
 impl From<io::Error> for Fault {
+    ghost from_gives = { λ e r. r ≡ Io e };
+
     fn from(error: io::Error) -> Fault {
         Fault::Io(error)
     }

@@ -15,6 +15,11 @@ use hosts::switch::Switch;
 use session::call::Call;
 use std::io;
 
+// Empty lines and remarks say nothing.
+fn says_nothing(line: &[u8]) -> bool {
+    line.is_empty() || line.starts_with(b"--")
+}
+
 // Who reads the lines and plays them at the desk.
 #[derive(Drop)]
 struct Player<'a> {
@@ -61,13 +66,10 @@ impl<'a> Player<'a> {
         Ok(None)
     }
 
-    // Carries a line out; an empty one and a remark say nothing.
+    // Carries a line out.
     fn carry_out<H: Host>(&mut self, host: &mut H, line: &[u8]) -> Result<Option<Choice>, Fault>
         ensures { to_come self.new.lines ≤ to_come self.old.lines }
     {
-        if line.is_empty() || line.starts_with(b"--") {
-            return Ok(None);
-        }
         let command = Command::read(self.rt.alloc(), line)?;
         self.obey(host, command)
     }
@@ -92,6 +94,10 @@ impl<'a> Player<'a> {
         ensures { Fewer result (to_come self.old.lines) (to_come self.new.lines) }
     {
         while let Some(line) = self.lines.next() {
+            // Asked here, before `play_line`, which answers a `Result` that is written first.
+            if says_nothing(line) {
+                continue;
+            }
             if let Some(choice) = self.play_line(host, line)? {
                 return Ok(Some(choice));
             }

@@ -14,6 +14,11 @@ fn plain(word: &str) -> bool {
     matches!(word.as_bytes(), [b'0'] | [b'1'..=b'9', ..])
 }
 
+// Whether the word has hexadecimal digits alone, and some.
+fn is_hexadecimal(word: &str) -> bool {
+    !word.is_empty() && word.bytes().all(|byte| byte.is_ascii_hexdigit())
+}
+
 impl Word for u32 {
     fn read(word: &str) -> Result<u32, Fault> {
         if !plain(word) {
@@ -84,12 +89,12 @@ impl<'a> Words<'a> {
         }
     }
 
-    // Bytes in hexadecimal; a minus for none.
+    // Bytes in hexadecimal; a minus for none. `decode` asks for memory before it looks at a digit, so the digits are looked at here first.
     pub fn bytes(&mut self) -> Result<Vec<u8>, Fault> {
         match self.word()? {
             "-" => Ok(Vec::new(self.heap)),
-            "" => Err(Fault::NotUnderstood),
-            word => Ok(hex::decode(self.heap, word)?),
+            word if is_hexadecimal(word) => Ok(hex::decode(self.heap, word)?),
+            _ => Err(Fault::NotUnderstood),
         }
     }
 

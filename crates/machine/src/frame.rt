@@ -18,7 +18,8 @@ const ZERO: Value = Value {
     number: 0,
 };
 
-// The items, at most N. The filler stands where no item does.
+// The items, at most N. The filler stands where no item does. Inlined with what collects operands, so that each list is filled in its place.
+#[inline(always)]
 #[tactic(auto, using(crate::proofs::Places::taken_more))]
 fn gathered<T: Copy, I: Iterator<Item = T>, const N: usize>(filler: T, items: I) -> ArrayVec<T, N>
     requires can_next { I.can_next items × IsFinite (I.remaining items) }
@@ -49,6 +50,7 @@ pub(crate) struct Call {
 
 impl Call {
     // The classes of the arguments.
+    #[inline(always)]
     pub(crate) fn kinds(&self) -> ArrayVec<u8, 7>
         ensures { items_of result ≡ map kind_of (items_of self.now.arguments) }
     {
@@ -87,6 +89,7 @@ impl Frame {
         }
     }
 
+    #[inline(always)]
     fn values(&self, operands: &ArrayVec<Operand, 7>) -> ArrayVec<Value, 7>
         ensures { items_of result ≡ map (operand_value (frame_of self.now)) (items_of operands.now) }
     {
@@ -98,6 +101,7 @@ impl Frame {
     }
 
     // The call that an invocation makes.
+    #[inline(always)]
     pub(crate) fn call(&self, receiver: Operand, arguments: &ArrayVec<Operand, 7>) -> Call
         ensures receiver { result.receiver ≡ operand_value (frame_of self.now) receiver }
         ensures arguments { items_of result.arguments ≡ map (operand_value (frame_of self.now)) (items_of arguments.now) }

@@ -35,14 +35,16 @@ impl<T: ClassTable> Store<'_, T> {
     pub(crate) fn entry_at(&self, row: usize) -> Entry
         ensures { entry_of result ≡ entry_at (store_of T.listed self.now) row }
     {
-        // The entry of no row; card's filler is the same, and a shared one would be a public function for two uses.
-        let none = Entry {
-            class: 0,
-            name: 0,
-            arguments: ArrayVec::new(0),
-            result: 0,
-        };
-        self.env.entries.get(row).copied().unwrap_or(none)
+        match self.env.entries.get(row) {
+            Some(entry) => *entry,
+            // The entry of no row, made only here; card's filler is the same, and a shared one would be a public function for two uses.
+            None => Entry {
+                class: 0,
+                name: 0,
+                arguments: ArrayVec::new(0),
+                result: 0,
+            },
+        }
     }
 
     // The code of a row, if it has any.

@@ -93,8 +93,14 @@ impl Output<'_> {
 impl Text for u8 {
     ghost text = { decimal };
 
+    // Most numbers of a method have one digit, which needs no buffer of its own.
+    #[tactic(auto, using(std::proofs::lemmas::Fmt::decimal_digit))]
     fn put(&self, out: &mut Output) {
-        out.number(*self);
+        if *self < 10 {
+            out.byte(b'0' + *self);
+        } else {
+            out.number(*self);
+        }
     }
 }
 
@@ -102,6 +108,9 @@ impl Text for i32 {
     ghost text = { signed_decimal };
 
     fn put(&self, out: &mut Output) {
-        out.number(*self);
+        match u8::try_from(*self) {
+            Ok(small) => small.put(out),
+            Err(_) => out.number(*self),
+        }
     }
 }

@@ -58,6 +58,14 @@ impl Run {
         matches!(self, Run::InHand(_))
     }
 
+    // Not inlined: the whole of an enum is written where a case of it is, and in `go` that would stand before the first step.
+    #[inline(never)]
+    fn clear(&mut self)
+        ensures { run_of self.new ≡ idle }
+    {
+        *self = Run::Idle;
+    }
+
     // The first frame of the row that a name means on the receiver, in the place of any run before.
     // Receiver, name and arguments come apart: the name is looked up, and the others go into the frame as one `Call`.
     pub fn begin<T: ClassTable>(
@@ -97,7 +105,7 @@ impl Run {
             match (&mut *self, outcome) {
                 (Run::Idle, _) => return Err(Refusal::NoRunInHand),
                 (Run::InHand(_), Err(stop)) => {
-                    *self = Run::Idle;
+                    self.clear();
                     return Ok(stop.end(taken));
                 }
                 (Run::InHand(frames), Ok(())) => {

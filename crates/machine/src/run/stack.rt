@@ -19,6 +19,7 @@ use semantics::operation::Destination;
 use semantics::value::Value;
 use verifier::tests::may_hold;
 
+// Most of what can stop a step is inlined, here and in `steps`: a stop would else be handed up through memory, call by call.
 impl Frames {
     // The only frame of a run.
     pub(crate) fn of(frame: Frame) -> Frames
@@ -38,6 +39,7 @@ impl Frames {
     }
 
     // An ending at the operation of the frame on top.
+    #[inline(always)]
     pub(crate) fn stop(&self, ending: Ending) -> Stop
         ensures { result ≡ stop_at ending (top_of self.now) }
     {
@@ -50,6 +52,7 @@ impl Frames {
     }
 
     // A test at the operation of the frame on top, which breaks the run off there.
+    #[inline(always)]
     pub(crate) fn or_stop<X>(&self, test: Result<X, Misfit>) -> Result<X, Stop>
         ensures { result ≡ or_stop (top_of self.now) test }
     {
@@ -79,6 +82,7 @@ impl Frames {
     }
 
     // The frame on top goes to the point that its tests allow.
+    #[inline(always)]
     pub(crate) fn moved(&mut self, to: Result<usize, Misfit>) -> Result<(), Stop>
         ensures { turned result self.new (tt {0}) ≡ or_break (top_of self.old) tt to (λ p. onward (moved_to (top_of self.old) p) (rest_of self.old) tt) }
     {
@@ -88,6 +92,7 @@ impl Frames {
     }
 
     // A value for the invocation at which the frame on top stands.
+    #[inline(always)]
     pub(crate) fn received<T: ClassTable>(
         &mut self,
         store: &Store<'_, T>,
@@ -111,6 +116,7 @@ impl Frames {
     }
 
     // The frame on top is closed with a value: the run has returned it, or the frame below takes it.
+    #[inline(always)]
     pub(crate) fn closed<T: ClassTable>(
         &mut self,
         store: &Store<'_, T>,

@@ -24,6 +24,7 @@ use semantics::value::{Question, Value};
 
 impl Frames {
     // A return: its test, and the frame is closed.
+    #[inline(always)]
     fn give_back<T: ClassTable>(
         &mut self,
         store: &Store<'_, T>,
@@ -39,6 +40,7 @@ impl Frames {
     }
 
     // A native row puts its question: a value in the wanted class is its answer.
+    #[inline(always)]
     fn ask<T: ClassTable, H: Host>(
         &self,
         table: &T,
@@ -66,6 +68,7 @@ impl Frames {
 
     // The called row: a native one puts its question, a coded one opens a frame.
     // Store and host come apart, here and below: a struct would hold a `&mut H`, with a clause on that in each method.
+    #[inline(always)]
     fn call<T: ClassTable, H: Host>(
         &mut self,
         store: &Store<'_, T>,
@@ -86,6 +89,7 @@ impl Frames {
     }
 
     // An invocation: the tests of its operands, and the call.
+    #[inline(always)]
     fn invoke<T: ClassTable, H: Host>(
         &mut self,
         store: &Store<'_, T>,
@@ -108,6 +112,7 @@ impl Frames {
     }
 
     // The operation at the point of the frame on top, which runs this code; behind the code that is a return of local 0.
+    #[inline(always)]
     fn operate<T: ClassTable, H: Host>(
         &mut self,
         store: &Store<'_, T>,
@@ -150,6 +155,7 @@ impl Frames {
     }
 
     // One step: the label of the point first, then its operation.
+    #[inline(always)]
     pub(crate) fn step<T: ClassTable, H: Host>(
         &mut self,
         store: &Store<'_, T>,

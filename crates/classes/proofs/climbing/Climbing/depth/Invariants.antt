@@ -1,10 +1,10 @@
-use Rattle.std.proofs.Common.{◌≡◌, ◌+◌, ◌<◌, length}
+use Rattle.std.proofs.Common.{◌≡◌, ◌+◌, ◌<◌}
 use Rattle.semantics.specs.Tree.{depth}
-use Rattle.semantics.specs.Items.{items_of}
+use Rattle.classes.proofs.Climbs.{listed}
 use Rattle.classes.proofs.climbing.Climbing.depth.Given as goal
 
 abbrev pub invariant-loop-at : goal.invariant-loop-at
-invariant-loop-at l = (l.at < length (items_of l.self.parents)) × (l.steps + depth (items_of l.self.parents) l.at ≡ depth (items_of l.self.parents) l.class)
+invariant-loop-at l = (l.at < l.self.count) × (l.steps + depth (listed l.self) l.at ≡ depth (listed l.self) l.class)
 
 abbrev pub decreases-loop-at : goal.decreases-loop-at
 decreases-loop-at l = l.at

@@ -12,7 +12,7 @@ returns-in-InHand-Err g c =
     let q = c.in-InHand-Err.stop in
     let p = goes s g.H.Host.reply c.args.steps c.args.self.now (h c.args.host.now) (h l.host) (Ok (end q.ending l.taken q.row q.point)) _
     (turn_ended s g.H.Host.reply (c.args.steps - l.taken) l.taken l.outcome q l.self c.in-InHand-Err.field-0-0 (h l.host) _ c.in-InHand-Err.is-0 c.in-InHand-Err.is-1 l.invariant.1) in
-    record { answer = ap Ok c.end.ensures ∙ p.0; run = p.1; host = p.2 }
+    record { answer = ap Ok c.end.ensures ∙ p.0; run = c.clear.ensures ∙ p.1; host = p.2 }
 
 pub returns-then-taken-steps : goal.returns-then-taken-steps
 returns-then-taken-steps g c =
